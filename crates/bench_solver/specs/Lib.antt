@@ -1,0 +1,4 @@
+pub mod Booleans
+pub mod BooleanLaws
+pub mod Constants
+pub mod ConstantLaws

@@ -1,0 +1,3 @@
+//! The image: stubs, the code of all functions, and the segments. `specs/Stubs.antt` and `specs/Image.antt` say its
+//! bytes; placing parts into it comes with relocatable objects.
+#![tactic(auto)]

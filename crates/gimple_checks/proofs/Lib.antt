@@ -1,0 +1,4 @@
+pub mod Lists
+pub mod SeenNames
+pub mod LabelOrder
+pub mod Faults

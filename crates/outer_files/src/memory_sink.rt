@@ -1,0 +1,80 @@
+// A sink in memory, which fails at the puts that it is told to fail at.
+ghost use Rattle.std.specs.Prelude.{◌↔◌, ◌≡◌, ◌≤◌, if◌then◌else◌, [], Some, OnOk, IsErrOf, IsTrue};
+ghost use Rattle.outer_files.specs.Outside.{WhereTold, Takes, TakesPrefix, Rose, one_more};
+ghost use Rattle.outer_files.specs.Memory.{fails_at};
+
+use crate::failing::fails;
+use crate::{Sink, WriteFault};
+use std::marker::Model;
+
+/// A sink in memory. It tells what it took.
+#[derive(Drop)]
+pub struct MemorySink {
+    taken: Vec<u8>,
+    fail: Vec<u64>,
+    calls: u64,
+    faults: u64,
+}
+
+impl Model for MemorySink {
+    ghost use Rattle.outer_files.specs.Memory.{SinkState};
+
+    ghost Value = { SinkState };
+
+    ghost view = { λ s. record { taken = s.taken.items; fail = s.fail.items; calls = s.calls; faults = s.faults } };
+}
+
+impl MemorySink {
+    /// A sink that has taken nothing. The puts with the numbers in `fail`, counted from 0, will fail. What is taken is
+    /// kept with the allocator of `fail`.
+    pub fn new(fail: Vec<u64>) -> MemorySink
+        ensures { result ≡ record { taken = []; fail = fail.items; calls = 0; faults = 0 } }
+    {
+        MemorySink {
+            taken: Vec::new(*fail.allocator()),
+            fail,
+            calls: 0,
+            faults: 0,
+        }
+    }
+
+    /// The bytes taken so far.
+    pub fn taken(&self) -> &[u8]
+        ensures { result.now ≡ self.now.taken }
+    {
+        &self.taken
+    }
+}
+
+impl Sink for MemorySink {
+    ghost taken = { λ s. Some s.taken };
+
+    ghost faults = { λ s. s.faults };
+
+    fn put(&mut self, bytes: &[u8]) -> Result<(), WriteFault>
+        ensures taken { OnOk result (WhereTold (Some self.old.taken) (Some self.new.taken) (Takes bytes.now)) }
+        ensures cut_short { IsErrOf result WriteFault.Failed → WhereTold (Some self.old.taken) (Some self.new.taken) (TakesPrefix bytes.now) }
+        ensures unchanged { IsErrOf result WriteFault.NoMemory → Some self.new.taken ≡ Some self.old.taken }
+        ensures never_falls { self.old.faults ≤ self.new.faults }
+        ensures failed { IsErrOf result WriteFault.Failed → Rose self.old.faults self.new.faults }
+        ensures memory { IsErrOf result WriteFault.NoMemory → self.new.faults ≡ self.old.faults }
+
+        // It fails exactly at the puts that it was told to fail at, takes nothing then, and its count rises there alone.
+        ensures fails { IsErrOf result WriteFault.Failed ↔ IsTrue (fails_at self.old.fail self.old.calls) }
+        ensures nothing { IsErrOf result WriteFault.Failed → self.new.taken ≡ self.old.taken }
+        ensures rises { self.new.faults ≡ (if fails_at self.old.fail self.old.calls then one_more self.old.faults else self.old.faults) }
+        ensures calls { self.new.calls ≡ one_more self.old.calls }
+        ensures fail { self.new.fail ≡ self.old.fail }
+    {
+        let call = self.calls;
+        self.calls = self.calls.saturating_add(1);
+        if fails(&self.fail, call) {
+            self.faults = self.faults.saturating_add(1);
+            return Err(WriteFault::Failed);
+        }
+        if self.taken.extend_from_slice(bytes).is_err() {
+            return Err(WriteFault::NoMemory);
+        }
+        Ok(())
+    }
+}

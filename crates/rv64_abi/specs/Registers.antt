@@ -1,0 +1,33 @@
+-- Registers by the names of the psABI's integer calling convention, as far as code uses them: the return address, the
+-- stack pointer, temporaries, arguments, and a7, which has the number of a system call.
+use Rattle.std.specs.Prelude.{ℕ}
+
+abbrev pub ra : ℕ
+ra = 1
+
+abbrev pub sp : ℕ
+sp = 2
+
+abbrev pub t0 : ℕ
+t0 = 5
+
+abbrev pub t1 : ℕ
+t1 = 6
+
+abbrev pub t2 : ℕ
+t2 = 7
+
+abbrev pub a0 : ℕ
+a0 = 10
+
+abbrev pub a1 : ℕ
+a1 = 11
+
+abbrev pub a2 : ℕ
+a2 = 12
+
+abbrev pub a7 : ℕ
+a7 = 17
+
+abbrev pub t3 : ℕ
+t3 = 28

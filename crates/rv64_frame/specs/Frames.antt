@@ -1,0 +1,36 @@
+-- A function's frame, in slots of 8 bytes from the stack pointer up: the arguments that it passes, its components, and
+-- the return address; the size is rounded up to the 16 bytes to which the psABI aligns the stack pointer.
+use Rattle.std.specs.Prelude.{ℕ, ◌+◌, ◌*◌, ◌/◌, max, List, [], ◌∷◌, length}
+use Rattle.gimple_ir.specs.declared.versioned.Step.{Step}
+use Rattle.gimple_ir.specs.declared.versioned.Step.TheVariants as steps
+use Rattle.gimple_ir.specs.declared.versioned.VersionedFunction.{VersionedFunction}
+
+-- how many arguments a step passes
+abbrev pub passed_of : Step → ℕ
+passed_of (steps.Call to call args) = length args
+passed_of _ = 0
+
+-- the largest number of arguments that a step passes
+abbrev pub outgoing_of : List Step → ℕ
+outgoing_of [] = 0
+outgoing_of (s ∷ ss) = max (passed_of s) (outgoing_of ss)
+
+-- where outgoing argument j lies
+abbrev pub outgoing_slot : ℕ → ℕ
+outgoing_slot j = 8 * j
+
+-- where component j lies
+abbrev pub component_slot : VersionedFunction → ℕ → ℕ
+component_slot f j = 8 * (outgoing_of f.body + j)
+
+-- where the return address lies
+abbrev pub return_slot : VersionedFunction → ℕ
+return_slot f = 8 * (outgoing_of f.body + length f.types)
+
+-- the size in bytes
+abbrev pub frame_size : VersionedFunction → ℕ
+frame_size f = (8 * (outgoing_of f.body + length f.types + 1) + 15) / 16 * 16
+
+-- where argument k of the caller lies
+abbrev pub incoming_slot : VersionedFunction → ℕ → ℕ
+incoming_slot f k = frame_size f + 8 * k

@@ -1,0 +1,6 @@
+-- The number that bytes spell, least first.
+use Rattle.std.specs.Prelude.{ℕ, ◌+◌, ◌*◌, List, [], ◌∷◌}
+
+unfoldable pub number_of : List ℕ → ℕ
+number_of [] = 0
+number_of (byte ∷ bytes) = byte + 256 * number_of bytes

@@ -1,0 +1,1 @@
+int main () { __builtin_putchar (72); __builtin_putchar (105); return 7; }

@@ -1,0 +1,4 @@
+pub mod Reads
+pub mod Answers
+pub mod Outputs
+pub mod Refusal

@@ -1,0 +1,14 @@
+//! The top call: one command over any files and any sink.
+//!
+//! `specs/Answers.antt` says when each status comes and what is printed with it, `specs/Reads.antt` what a command asks of
+//! its files, `specs/Outputs.antt` what they hold afterwards.
+#![tactic(auto)]
+
+mod refusal;
+mod report;
+mod top;
+
+pub use top::{FILE_BYTES, plain, whopr};
+
+#[cfg(test)]
+mod tests;

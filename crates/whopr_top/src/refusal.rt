@@ -1,0 +1,52 @@
+// Why a command was refused: its status and its line.
+ghost use Rattle.std.specs.Prelude.{◌≡◌, IfOk, string_bytes};
+ghost use Rattle.whopr_top.specs.Refusal.{status_of, refusal_line};
+
+use std::alloc::{AllocError, Global};
+
+/// Why a command was refused. One variant a status.
+#[derive(Clone, Copy, Debug)]
+pub enum Refusal<'a> {
+    /// 2: the words are no command.
+    NoCommand,
+    /// 4: a file that is read is longer than 16 MiB.
+    TooLong,
+    /// 5: this file could not be read.
+    Read(&'a str),
+    /// 6: this file could not be written.
+    Write(&'a str),
+    /// 7: there was no memory.
+    Memory,
+    /// 13: the text is none that is compiled so far.
+    Unbuilt,
+}
+
+impl Refusal<'_> {
+    /// The status that the command answers.
+    pub fn status(self) -> u8
+        ensures { result ≡ status_of self.entry }
+    {
+        match self {
+            Refusal::NoCommand => 2,
+            Refusal::TooLong => 4,
+            Refusal::Read(_) => 5,
+            Refusal::Write(_) => 6,
+            Refusal::Memory => 7,
+            Refusal::Unbuilt => 13,
+        }
+    }
+}
+
+/// The line of a refusal.
+pub fn refusal_line(alloc: Global, refusal: Refusal<'_>) -> Result<String, AllocError>
+    ensures { IfOk result (λ line. string_bytes line ≡ refusal_line refusal.entry) }
+{
+    match refusal {
+        Refusal::NoCommand => format!(in alloc; "2 words\n"),
+        Refusal::TooLong => format!(in alloc; "4 limit FileBytes 16777217 16777216\n"),
+        Refusal::Read(name) => format!(in alloc; "5 read {name}\n"),
+        Refusal::Write(name) => format!(in alloc; "6 write {name}\n"),
+        Refusal::Memory => format!(in alloc; "7 memory\n"),
+        Refusal::Unbuilt => format!(in alloc; "13 unbuilt\n"),
+    }
+}

@@ -1,0 +1,49 @@
+// What a command prints: all of it in one put.
+ghost use Rattle.std.specs.Prelude.{◌≡◌, ◌⊎◌, ◌≤◌};
+ghost use Rattle.outer_files.specs.Outside.{WhereTold, TakesPrefix, Rose};
+ghost use Rattle.whopr_top.specs.Answers.{after_fault, Puts};
+ghost use Rattle.whopr_top.specs.Refusal.{status_of, Reports};
+
+use crate::refusal::{Refusal, refusal_line};
+use outer_files::{Sink, WriteFault};
+use std::alloc::Global;
+
+// Puts a piece, whatever comes of it.
+fn try_put<K: Sink>(bytes: &[u8], out: &mut K)
+    ensures taken { WhereTold (K.taken out.old) (K.taken out.new) (TakesPrefix bytes.now) }
+    ensures never_falls { K.faults out.old ≤ K.faults out.new }
+{
+    let _ = out.put(bytes);
+}
+
+fn after_fault(status: u8) -> u8
+    ensures { result ≡ after_fault status }
+{
+    if status == 0 { 6 } else { status }
+}
+
+/// Prints a text in one put, and answers this status. Where the sink fails, the line for that is put once.
+pub fn print<K: Sink>(text: &[u8], status: u8, out: &mut K) -> u8
+    ensures status { (result ≡ status) ⊎ (result ≡ after_fault status) ⊎ (result ≡ 7) }
+    ensures printed { WhereTold (K.taken out.old) (K.taken out.new) (Puts text.now status result (Rose (K.faults out.old) (K.faults out.new))) }
+{
+    match out.put(text) {
+        Ok(()) => status,
+        Err(WriteFault::Failed) => {
+            try_put(b"6 write -\n", out);
+            after_fault(status)
+        }
+        Err(WriteFault::NoMemory) => 7,
+    }
+}
+
+/// Prints the line of a refusal, and answers its status.
+pub fn report<K: Sink>(alloc: Global, refusal: Refusal<'_>, out: &mut K) -> u8
+    ensures status { (result ≡ status_of refusal.entry) ⊎ (result ≡ 7) }
+    ensures printed { WhereTold (K.taken out.old) (K.taken out.new) (Reports refusal.entry result (Rose (K.faults out.old) (K.faults out.new))) }
+{
+    match refusal_line(alloc, refusal) {
+        Ok(line) => print(line.as_bytes(), refusal.status(), out),
+        Err(_) => print(b"7 memory\n", 7, out),
+    }
+}

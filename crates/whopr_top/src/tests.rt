@@ -1,0 +1,156 @@
+// The rows of `cc` over files in memory, its image word for word, and its limits.
+use super::{plain, whopr};
+use outer_files::{MemoryFiles, MemorySink};
+use std::alloc::{AllocError, Global};
+use std::test::Fail;
+
+// The text of the first row, and its image's words from 0x10000 on: the start stub, and `main` at 0x10064.
+const TEXT: &str = "int main () { __builtin_putchar (72); __builtin_putchar (105); return 7; }";
+
+const START: [u32; 6] = [
+    0x00021137, 0x01010113, 0x00000097, 0x05c080e7, 0x05d00893, 0x00000073,
+];
+
+const MAIN: [u32; 14] = [
+    0xff000293, 0x00510133, 0x00113023, 0x04800513, 0x00000097, 0xfa4080e7, 0x06900513, 0x00000097,
+    0xf98080e7, 0x00700513, 0x00013083, 0x01000293, 0x00510133, 0x00008067,
+];
+
+fn words_of(alloc: Global, line: &str) -> Result<Vec<String>, AllocError> {
+    let mut words = Vec::new(alloc);
+    for word in line.split_whitespace() {
+        words.push(String::from_str(alloc, word)?)?;
+    }
+    Ok(words)
+}
+
+// A store that holds one file.
+fn one_file(
+    alloc: Global,
+    name: &str,
+    bytes: &[u8],
+    fail: &[u64],
+) -> Result<MemoryFiles, AllocError> {
+    let mut files = Vec::new(alloc);
+    files.push((
+        String::from_str(alloc, name)?,
+        Vec::from_slice(alloc, bytes)?,
+    ))?;
+    Ok(MemoryFiles::new(files, Vec::from_slice(alloc, fail)?))
+}
+
+// Four bytes of an image, least first.
+fn word_at(image: &[u8], offset: usize) -> Option<u32> {
+    let bytes = image.get(offset..offset.checked_add(4)?)?;
+    match bytes {
+        [a, b, c, d] => Some(u32::from_le_bytes([*a, *b, *c, *d])),
+        _ => None,
+    }
+}
+
+// Each refusal of `cc`, with its line and what the files hold: the words, the store's failing calls, the sink's.
+#[test]
+fn rows(rt: HostRuntime) -> Result<(), Fail> {
+    let alloc = rt.alloc();
+    let none: &[u64] = &[];
+    let rows = [
+        ("cc h.g h.img", TEXT, none, none, 0, "", Some(8192)),
+        (
+            "cc h.g h.img",
+            "int main () { return -1; }",
+            none,
+            none,
+            0,
+            "",
+            Some(8192),
+        ),
+        ("cc h.g h.img", "", none, none, 13, "13 unbuilt\n", None),
+        (
+            "cc h.g h.img",
+            "int main () { return 2147483648; }",
+            none,
+            none,
+            13,
+            "13 unbuilt\n",
+            None,
+        ),
+        ("cc h.g", TEXT, none, none, 2, "2 words\n", None),
+        ("cc x o", TEXT, none, none, 5, "5 read x\n", None),
+        ("cc h.g h.img", TEXT, &[0], none, 5, "5 read h.g\n", None),
+        ("cc h.g h.img", TEXT, &[1], none, 6, "6 write h.img\n", None),
+        ("cc h.g", TEXT, none, &[0], 2, "6 write -\n", None),
+        ("cc h.g", TEXT, none, &[0, 1], 2, "", None),
+    ];
+    for (line, text, fail_files, fail_puts, status, printed, written) in rows {
+        let words = words_of(alloc, line)?;
+        let mut files = one_file(alloc, "h.g", text.as_bytes(), fail_files)?;
+        let mut out = MemorySink::new(Vec::from_slice(alloc, fail_puts)?);
+        assert_eq!(rt;
+            plain(alloc, &words, &mut files, &mut out),
+            status,
+            "{line}"
+        );
+        assert_eq!(rt; out.taken(), printed.as_bytes(), "{line}");
+        assert_eq!(rt;
+            files.held("h.img").map(|image| image.len()),
+            written,
+            "{line}"
+        );
+        assert_eq!(rt; files.held("h.g"), Some(text.as_bytes()), "{line}");
+    }
+    Ok(())
+}
+
+// The first row's image, word for word, by the call that the program makes.
+#[test]
+fn image(rt: HostRuntime) -> Result<(), Fail> {
+    let alloc = rt.alloc();
+    let words = words_of(alloc, "cc h.g h.img")?;
+    let mut files = one_file(alloc, "h.g", TEXT.as_bytes(), &[])?;
+    let mut out = MemorySink::new(Vec::new(alloc));
+    assert_eq!(rt; whopr(alloc, &words, &mut files, &mut out), 0);
+    let image = files.held("h.img").ok_or("no image")?;
+    for (place, word) in START.iter().enumerate() {
+        assert_eq!(rt;
+            word_at(image, 0x1000_usize.saturating_add(place.saturating_mul(4))),
+            Some(*word)
+        );
+    }
+    for (place, word) in MAIN.iter().enumerate() {
+        assert_eq!(rt;
+            word_at(image, 0x1064_usize.saturating_add(place.saturating_mul(4))),
+            Some(*word)
+        );
+    }
+    // The text's size, the data's address, and the stack's top less that.
+    assert_eq!(rt; word_at(image, 96), Some(0x9c));
+    assert_eq!(rt; word_at(image, 136), Some(0x11000));
+    assert_eq!(rt; word_at(image, 160), Some(0x10010));
+    Ok(())
+}
+
+// The most calls that are compiled, one more, and a text of one byte more than 16 MiB.
+#[test]
+fn limits(rt: HostRuntime) -> Result<(), Fail> {
+    let alloc = rt.alloc();
+    let words = words_of(alloc, "cc h.g h.img")?;
+    for (calls, status) in [(7280, 0), (7281, 13)] {
+        let mut text = String::from_str(alloc, "int main () {\n")?;
+        for _ in 0..calls {
+            text.push_str("__builtin_putchar (-2147483648);\n")?;
+        }
+        text.push_str("return 0; }")?;
+        let mut files = one_file(alloc, "h.g", text.as_bytes(), &[])?;
+        let mut out = MemorySink::new(Vec::new(alloc));
+        assert_eq!(rt; plain(alloc, &words, &mut files, &mut out), status);
+    }
+    let bytes = vec![in alloc; b' '; (16 << 20) + 1]?;
+    let mut files = one_file(alloc, "h.g", &bytes, &[])?;
+    let mut out = MemorySink::new(Vec::new(alloc));
+    assert_eq!(rt; plain(alloc, &words, &mut files, &mut out), 4);
+    assert_eq!(rt;
+        out.taken(),
+        b"4 limit FileBytes 16777217 16777216\n".as_slice()
+    );
+    Ok(())
+}

@@ -1,0 +1,28 @@
+-- The commands: which words are one. So far there is `cc IN OUT`; words of any other kind are no command.
+use Rattle.std.specs.Prelude.{ℕ, ◌≤◌, ◌&&◌, List, [], ◌∷◌, length, map, nat_le, nat_lt, codes, Bool, if◌then◌else◌, Option, None, Some, String, string_bytes}
+use Rattle.std.specs.List.{list_all}
+use Rattle.std.specs.Str.{bytes_eq}
+use Rattle.std.specs.declared.alloc.Global.{Global}
+
+-- the words as bytes
+abbrev pub words_of : List (String Global) → List (List ℕ)
+words_of words = map (λ w. string_bytes w) words
+
+-- a byte from 0x21 to 0x7e
+abbrev pub is_printable : ℕ → Bool
+is_printable b = nat_le 0x21 b && nat_le b 0x7e
+
+-- 1 to 255 bytes from 0x21 to 0x7e
+abbrev pub is_file_name : List ℕ → Bool
+is_file_name bytes = nat_lt 0 (length bytes) && nat_le (length bytes) 255 && list_all is_printable bytes
+
+-- a command with its words
+pub data Spoken : Type 0 where
+  -- the text that is compiled, and the image that is written
+  Cc : (input output : List ℕ) → Spoken
+
+-- the command that the words are
+abbrev pub command_of : List (List ℕ) → Option Spoken
+command_of (verb ∷ input ∷ output ∷ []) =
+    if bytes_eq verb (codes "cc") && is_file_name input && is_file_name output then Some (Cc input output) else None
+command_of words = None

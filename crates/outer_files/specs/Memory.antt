@@ -5,7 +5,7 @@ use Rattle.std.specs.List.{list_any}
 use Rattle.std.specs.Str.{bytes_eq}
 use Rattle.std.specs.declared.alloc.Global.{Global}
 use Rattle.std.specs.Prelude.{String, Vec}
-use Rattle.outer_files.specs.Outside.{Contents, OthersStand}
+use Rattle.outer_files.specs.Outside.{Contents, Known, OthersStand}
 
 -- the files in order, the numbers of the calls that fail, the calls so far and the faults so far
 pub record StoreState : Type 0 where
@@ -24,6 +24,10 @@ pub record SinkState : Type 0 where
 -- the names and the bytes of these files
 abbrev pub files_of : List (String Global × Vec ℕ Global) → List (List ℕ × List ℕ)
 files_of entries = map (λ e. (string_bytes e.0, e.1.items)) entries
+
+-- a sink in memory tells the bytes taken; it does not keep where one piece ends and the next begins
+abbrev pub known_of : SinkState → Known
+known_of s = record { taken = Some s.taken; pieces = None; puts = s.calls; faults = s.faults }
 
 -- the bytes of the first file of this name
 abbrev pub held_in : List (List ℕ × List ℕ) → Contents

@@ -1,6 +1,6 @@
 -- What a store of files and a sink hold, what a call does to that, and when a count of faults has risen. Contents are a
 -- function from names to bytes, so that "the name holds" and "every other file stands" are said as they are spoken.
-use Rattle.std.specs.Prelude.{◌≡◌, ◌≢◌, ℕ, ◌+◌, ◌-◌, ◌^◌, ◌<◌, ◌≤◌, min, List, [], ◌++◌, length, take, Option, None, Some, unwrap_or}
+use Rattle.std.specs.Prelude.{◌≡◌, ◌≢◌, ℕ, ◌+◌, ◌-◌, ◌^◌, ◌<◌, ◌≤◌, min, List, [], ◌∷◌, ◌++◌, length, take, Option, None, Some, unwrap_or}
 
 -- what a store holds: the bytes of each name that is held
 abbrev pub Contents : Type 0
@@ -50,3 +50,36 @@ Rose before now = min (before + 1) (2 ^ 64 - 1) ≤ now
 -- A count has risen at least n times, unless it stands at its last value.
 abbrev pub RoseBy : ℕ → ℕ → ℕ → Type 0
 RoseBy n before now = min (before + n) (2 ^ 64 - 1) ≤ now
+
+-- What is known of a sink: the bytes taken and the pieces put, where it tells them, how many puts there were and how many
+-- faults. The count of puts stands still at its last value too.
+pub record Known : Type 0 where
+  pub taken : Option (List ℕ)
+  pub pieces : Option (List (List ℕ))
+  pub puts : ℕ
+  pub faults : ℕ
+
+-- the piece is the last of those put
+abbrev pub EndsWith : List ℕ → List (List ℕ) → List (List ℕ) → Type 0
+EndsWith piece old new = new ≡ old ++ piece ∷ []
+
+-- one put, of this piece, which was taken
+pub record TookPiece (piece : List ℕ) (old new : Known) : Type 0 where
+  pub taken : WhereTold old.taken new.taken (Takes piece)
+  pub pieces : WhereTold old.pieces new.pieces (EndsWith piece)
+  pub puts : new.puts ≡ one_more old.puts
+  pub never_falls : old.faults ≤ new.faults
+
+-- one put, of this piece, at which the sink failed; it took some prefix
+pub record FailedPiece (piece : List ℕ) (old new : Known) : Type 0 where
+  pub taken : WhereTold old.taken new.taken (TakesPrefix piece)
+  pub pieces : WhereTold old.pieces new.pieces (EndsWith piece)
+  pub puts : new.puts ≡ one_more old.puts
+  pub rose : Rose old.faults new.faults
+
+-- one put, of a piece for which there was no memory; nothing of it is kept
+pub record LackedMemory (old new : Known) : Type 0 where
+  pub taken : new.taken ≡ old.taken
+  pub pieces : new.pieces ≡ old.pieces
+  pub puts : new.puts ≡ one_more old.puts
+  pub faults : new.faults ≡ old.faults

@@ -1,8 +1,8 @@
 // The system's files, and its standard output. What they hold and took isn't told; their faults are counted.
-ghost use Rattle.std.specs.Prelude.{◌≡◌, ◌≤◌, ◌<◌, ◌+◌, ℕ, List, None, Some, IfSome, IfOk, IsErrOf, OnOk, length, vec_len};
+ghost use Rattle.std.specs.Prelude.{◌≡◌, ◌≤◌, ◌<◌, ◌+◌, ℕ, None, Some, IfSome, IfOk, IsErrOf, OnOk, length, vec_len};
 ghost use Rattle.std.specs.Io.KnownBytes.{Consumes, IsAtEnd};
-ghost use Rattle.outer_files.specs.Outside.{Contents, WhereTold, Writes, WritesPrefix, Takes, TakesPrefix, IsLonger, Rose, one_more};
-ghost use Rattle.outer_files.specs.Host.{TakesAtMost};
+ghost use Rattle.outer_files.specs.Outside.{Contents, WhereTold, Writes, WritesPrefix, IsLonger, Rose, one_more, TookPiece, FailedPiece, LackedMemory};
+ghost use Rattle.outer_files.specs.Host.{TakesAtMost, known_of_counts};
 
 use crate::{FileStore, ReadFault, Sink, WriteFault};
 use std::alloc::Global;
@@ -83,45 +83,50 @@ impl<'a, R: Files> FileStore for HostFiles<'a, R> {
     }
 }
 
-/// The standard output. What it took isn't told. Each error of the system is a fault that is counted, up to the count's
-/// last value. Contracts see it as that count.
+/// The standard output. What it took isn't told. Each error of the system is a fault that is counted, and each put is, up to
+/// the counts' last value. Contracts see it as these two counts.
 #[derive(Drop)]
 pub struct HostSink<'a, R: Print> {
     rt: &'a R,
+    puts: u64,
     faults: u64,
 }
 
 impl<'a, R: Print> Model for HostSink<'a, R> {
-    ghost Value = { ℕ };
+    ghost use Rattle.outer_files.specs.Host.{SinkCounts};
 
-    ghost view = { λ s. s.faults };
+    ghost Value = { SinkCounts };
+
+    ghost view = { λ s. record { puts = s.puts; faults = s.faults } };
 }
 
 impl<'a, R: Print> HostSink<'a, R> {
-    /// The output of this runtime, with no fault so far.
+    /// The output of this runtime, with no put and no fault so far.
     pub fn new(rt: &'a R) -> HostSink<'a, R>
-        ensures { result ≡ 0 }
+        ensures { result ≡ record { puts = 0; faults = 0 } }
     {
-        HostSink { rt, faults: 0 }
+        HostSink {
+            rt,
+            puts: 0,
+            faults: 0,
+        }
     }
 }
 
 impl<'a, R: Print> Sink for HostSink<'a, R> {
-    ghost taken = { λ _. None };
-
-    ghost faults = { λ s. s };
+    ghost known = { known_of_counts };
 
     fn put(&mut self, bytes: &[u8]) -> Result<(), WriteFault>
-        ensures taken { OnOk result (WhereTold {A = List ℕ} None None (Takes bytes.now)) }
-        ensures never_falls { self.old ≤ self.new }
-        ensures failed { IsErrOf result WriteFault.Failed → Rose self.old self.new }
-        ensures memory { IsErrOf result WriteFault.NoMemory → self.new ≡ self.old }
+        ensures taken { OnOk result (TookPiece bytes.now (known_of_counts self.old) (known_of_counts self.new)) }
+        ensures failed { IsErrOf result WriteFault.Failed → FailedPiece bytes.now (known_of_counts self.old) (known_of_counts self.new) }
+        ensures memory { IsErrOf result WriteFault.NoMemory → LackedMemory (known_of_counts self.old) (known_of_counts self.new) }
 
-        // The count rises by one with each failure, and there alone. There is no other answer.
-        ensures rises { IsErrOf result WriteFault.Failed → self.new ≡ one_more self.old }
-        ensures stands { OnOk result (self.new ≡ self.old) }
+        // The count of faults rises by one with each failure, and there alone. There is no other answer.
+        ensures rises { IsErrOf result WriteFault.Failed → self.new.faults ≡ one_more self.old.faults }
+        ensures stands { OnOk result (self.new.faults ≡ self.old.faults) }
         ensures no_memory { ¬ IsErrOf result WriteFault.NoMemory }
     {
+        self.puts = self.puts.saturating_add(1);
         if self.rt.write_all(bytes).is_err() {
             self.faults = self.faults.saturating_add(1);
             return Err(WriteFault::Failed);

@@ -1,7 +1,7 @@
 // A sink in memory, which fails at the puts that it is told to fail at.
-ghost use Rattle.std.specs.Prelude.{◌↔◌, ◌≡◌, ◌≤◌, if◌then◌else◌, [], Some, OnOk, IsErrOf, IsTrue};
-ghost use Rattle.outer_files.specs.Outside.{WhereTold, Takes, TakesPrefix, Rose, one_more};
-ghost use Rattle.outer_files.specs.Memory.{fails_at};
+ghost use Rattle.std.specs.Prelude.{◌↔◌, ◌≡◌, if◌then◌else◌, [], OnOk, IsErrOf, IsTrue};
+ghost use Rattle.outer_files.specs.Outside.{TookPiece, FailedPiece, LackedMemory, one_more};
+ghost use Rattle.outer_files.specs.Memory.{fails_at, known_of};
 
 use crate::failing::fails;
 use crate::{Sink, WriteFault};
@@ -47,23 +47,17 @@ impl MemorySink {
 }
 
 impl Sink for MemorySink {
-    ghost taken = { λ s. Some s.taken };
-
-    ghost faults = { λ s. s.faults };
+    ghost known = { known_of };
 
     fn put(&mut self, bytes: &[u8]) -> Result<(), WriteFault>
-        ensures taken { OnOk result (WhereTold (Some self.old.taken) (Some self.new.taken) (Takes bytes.now)) }
-        ensures cut_short { IsErrOf result WriteFault.Failed → WhereTold (Some self.old.taken) (Some self.new.taken) (TakesPrefix bytes.now) }
-        ensures unchanged { IsErrOf result WriteFault.NoMemory → Some self.new.taken ≡ Some self.old.taken }
-        ensures never_falls { self.old.faults ≤ self.new.faults }
-        ensures failed { IsErrOf result WriteFault.Failed → Rose self.old.faults self.new.faults }
-        ensures memory { IsErrOf result WriteFault.NoMemory → self.new.faults ≡ self.old.faults }
+        ensures taken { OnOk result (TookPiece bytes.now (known_of self.old) (known_of self.new)) }
+        ensures failed { IsErrOf result WriteFault.Failed → FailedPiece bytes.now (known_of self.old) (known_of self.new) }
+        ensures memory { IsErrOf result WriteFault.NoMemory → LackedMemory (known_of self.old) (known_of self.new) }
 
         // It fails exactly at the puts that it was told to fail at, takes nothing then, and its count rises there alone.
         ensures fails { IsErrOf result WriteFault.Failed ↔ IsTrue (fails_at self.old.fail self.old.calls) }
         ensures nothing { IsErrOf result WriteFault.Failed → self.new.taken ≡ self.old.taken }
         ensures rises { self.new.faults ≡ (if fails_at self.old.fail self.old.calls then one_more self.old.faults else self.old.faults) }
-        ensures calls { self.new.calls ≡ one_more self.old.calls }
         ensures fail { self.new.fail ≡ self.old.fail }
     {
         let call = self.calls;

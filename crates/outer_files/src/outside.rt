@@ -1,6 +1,6 @@
 // What a program asks of its files and of its sink, and how they answer.
-ghost use Rattle.std.specs.Prelude.{◌≡◌, ◌≤◌, ℕ, List, Option, IfSome, IfOk, OnOk, IsErrOf, vec_len};
-ghost use Rattle.outer_files.specs.Outside.{Contents, WhereTold, Writes, WritesPrefix, Takes, TakesPrefix, IsLonger, Rose};
+ghost use Rattle.std.specs.Prelude.{◌≡◌, ◌≤◌, ℕ, Option, Some, IfSome, IfOk, OnOk, IsErrOf, vec_len};
+ghost use Rattle.outer_files.specs.Outside.{Contents, WhereTold, Writes, WritesPrefix, IsLonger, Rose, Known, TookPiece, FailedPiece, LackedMemory};
 
 use std::alloc::Global;
 use thiserror::Error;
@@ -62,19 +62,12 @@ pub trait FileStore {
 
 /// Takes bytes, one piece after the other. A sink may not tell what it took; what it tells of that no call changes.
 pub trait Sink {
-    /// The bytes taken, where the sink tells them.
-    ghost taken: { Self → Option (List ℕ) };
+    /// What is known of it: the bytes taken and the pieces put, where it tells them, and how many puts and faults there were.
+    ghost known: { Self → Known };
 
-    /// How often it has failed. A count at its last value, 2^64 - 1, counts as having risen.
-    ghost faults: { Self → ℕ };
-
-    /// Takes a piece, behind all that was taken before.
+    /// Takes a piece, behind all that was taken before. A put is counted, whatever comes of it.
     fn put(&mut self, bytes: &[u8]) -> Result<(), WriteFault>
-        ensures taken { OnOk result (WhereTold (taken self.old) (taken self.new) (Takes bytes.now)) }
-        ensures cut_short { IsErrOf result WriteFault.Failed → WhereTold (taken self.old) (taken self.new) (TakesPrefix bytes.now) }
-        ensures unchanged { IsErrOf result WriteFault.NoMemory → taken self.new ≡ taken self.old }
-
-        ensures never_falls { faults self.old ≤ faults self.new }
-        ensures failed { IsErrOf result WriteFault.Failed → Rose (faults self.old) (faults self.new) }
-        ensures memory { IsErrOf result WriteFault.NoMemory → faults self.new ≡ faults self.old };
+        ensures taken { OnOk result (TookPiece bytes.now (known self.old) (known self.new)) }
+        ensures failed { IsErrOf result WriteFault.Failed → FailedPiece bytes.now (known self.old) (known self.new) }
+        ensures memory { IsErrOf result WriteFault.NoMemory → LackedMemory (known self.old) (known self.new) };
 }

@@ -1,7 +1,8 @@
 -- The statuses of a command, when each comes, and what is printed with it.
-use Rattle.std.specs.Prelude.{◌≡◌, ℕ, ◌+◌, ◌-◌, ◌^◌, ◌≤◌, ◌==◌, ◌⊎◌, min, List, [], ◌∷◌, ◌++◌, take, Bool, if◌then◌else◌, Option, None, Some, codes}
+use Rattle.std.specs.Prelude.{◌≡◌, ℕ, ◌==◌, ◌⊎◌, List, [], ◌∷◌, ◌++◌, Bool, if◌then◌else◌, Option, None, Some, codes}
 use Rattle.std.specs.List.{list_any}
 use Rattle.std.specs.Option.{option_map_or}
+use Rattle.outer_files.specs.Outside.{Known, TookPiece, FailedPiece, LackedMemory}
 use Rattle.whopr_words.specs.Commands.{Spoken, Cc}
 use Rattle.whopr_top.specs.Reads.{reads_of, writes_of}
 
@@ -48,17 +49,27 @@ sink_line = line (codes "6 write -")
 abbrev pub after_fault : ℕ → ℕ
 after_fault status = if status == 0 then 6 else status
 
--- A text was put once, and the command answers its status; or the sink failed at it, and took some prefix of it and then
--- some prefix of the line for that; or there was no memory for it, and nothing more is put.
-abbrev pub Puts : List ℕ → ℕ → ℕ → Type 0 → List ℕ → List ℕ → Type 0
-Puts text status result failed old new =
-    ((result ≡ status) × (new ≡ old ++ text))
-    ⊎ ((result ≡ after_fault status) × failed × ((m n : ℕ) × (new ≡ old ++ take m text ++ take n sink_line)))
-    ⊎ ((result ≡ 7) × (new ≡ old))
+-- one put of this piece, whatever came of it
+abbrev pub WasPut : List ℕ → Known → Known → Type 0
+WasPut piece old new = TookPiece piece old new ⊎ FailedPiece piece old new ⊎ LackedMemory old new
+
+-- the sink failed at a put of this text, and the line for that was put once, whatever came of it
+pub record PutsFault (text : List ℕ) (old new : Known) : Type 0 where
+  pub between : Known
+  pub failed : FailedPiece text old between
+  pub line : WasPut sink_line between new
+
+-- A text was put once, and the command answers its status; or the sink failed at it, and the line for that was put once;
+-- or there was no memory for it, and nothing more was put.
+abbrev pub Puts : List ℕ → ℕ → ℕ → Known → Known → Type 0
+Puts text status result old new =
+    ((result ≡ status) × TookPiece text old new)
+    ⊎ ((result ≡ after_fault status) × PutsFault text old new)
+    ⊎ ((result ≡ 7) × LackedMemory old new)
 
 -- the line of the status that is answered was put
-abbrev pub PutsLine : Option Spoken → ℕ → Type 0 → List ℕ → List ℕ → Type 0
-PutsLine command result failed old new =
-    (new ≡ old ++ line_of result command)
-    ⊎ (failed × ((m n : ℕ) × (new ≡ old ++ take m (line_of result command) ++ take n sink_line)))
-    ⊎ ((result ≡ 7) × (new ≡ old))
+abbrev pub PutsLine : Option Spoken → ℕ → Known → Known → Type 0
+PutsLine command result old new =
+    TookPiece (line_of result command) old new
+    ⊎ PutsFault (line_of result command) old new
+    ⊎ ((result ≡ 7) × LackedMemory old new)

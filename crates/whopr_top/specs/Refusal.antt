@@ -1,5 +1,6 @@
 -- The status and the line of a refusal.
 use Rattle.std.specs.Prelude.{◌≡◌, ◌⊎◌, ℕ, List, ◌++◌, codes, Result, Ok, Err}
+use Rattle.outer_files.specs.Outside.{Known}
 use Rattle.whopr_top.specs.declared.refusal.Refusal.{Refusal}
 use Rattle.whopr_top.specs.declared.refusal.Refusal.TheVariants.{NoCommand, TooLong, Read, Write, Memory, Unbuilt}
 use Rattle.whopr_top.specs.Answers.{line, Puts}
@@ -26,6 +27,6 @@ answer_of (Ok done) = 0
 answer_of (Err refusal) = status_of refusal
 
 -- the line of the refusal was put, or the one for want of memory
-abbrev pub Reports : Refusal → ℕ → Type 0 → List ℕ → List ℕ → Type 0
-Reports refusal result failed old new =
-    Puts (refusal_line refusal) (status_of refusal) result failed old new ⊎ Puts (refusal_line Memory) 7 result failed old new
+abbrev pub Reports : Refusal → ℕ → Known → Known → Type 0
+Reports refusal result old new =
+    Puts (refusal_line refusal) (status_of refusal) result old new ⊎ Puts (refusal_line Memory) 7 result old new

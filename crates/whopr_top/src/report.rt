@@ -1,7 +1,6 @@
 // What a command prints: all of it in one put.
-ghost use Rattle.std.specs.Prelude.{◌≡◌, ◌⊎◌, ◌≤◌};
-ghost use Rattle.outer_files.specs.Outside.{WhereTold, TakesPrefix, Rose};
-ghost use Rattle.whopr_top.specs.Answers.{after_fault, Puts};
+ghost use Rattle.std.specs.Prelude.{◌≡◌, ◌⊎◌};
+ghost use Rattle.whopr_top.specs.Answers.{after_fault, WasPut, Puts};
 ghost use Rattle.whopr_top.specs.Refusal.{status_of, Reports};
 
 use crate::refusal::{Refusal, refusal_line};
@@ -10,8 +9,7 @@ use std::alloc::Global;
 
 // Puts a piece, whatever comes of it.
 fn try_put<K: Sink>(bytes: &[u8], out: &mut K)
-    ensures taken { WhereTold (K.taken out.old) (K.taken out.new) (TakesPrefix bytes.now) }
-    ensures never_falls { K.faults out.old ≤ K.faults out.new }
+    ensures { WasPut bytes.now (K.known out.old) (K.known out.new) }
 {
     let _ = out.put(bytes);
 }
@@ -25,7 +23,7 @@ fn after_fault(status: u8) -> u8
 /// Prints a text in one put, and answers this status. Where the sink fails, the line for that is put once.
 pub fn print<K: Sink>(text: &[u8], status: u8, out: &mut K) -> u8
     ensures status { (result ≡ status) ⊎ (result ≡ after_fault status) ⊎ (result ≡ 7) }
-    ensures printed { WhereTold (K.taken out.old) (K.taken out.new) (Puts text.now status result (Rose (K.faults out.old) (K.faults out.new))) }
+    ensures printed { Puts text.now status result (K.known out.old) (K.known out.new) }
 {
     match out.put(text) {
         Ok(()) => status,
@@ -40,7 +38,7 @@ pub fn print<K: Sink>(text: &[u8], status: u8, out: &mut K) -> u8
 /// Prints the line of a refusal, and answers its status.
 pub fn report<K: Sink>(alloc: Global, refusal: Refusal<'_>, out: &mut K) -> u8
     ensures status { (result ≡ status_of refusal.entry) ⊎ (result ≡ 7) }
-    ensures printed { WhereTold (K.taken out.old) (K.taken out.new) (Reports refusal.entry result (Rose (K.faults out.old) (K.faults out.new))) }
+    ensures printed { Reports refusal.entry result (K.known out.old) (K.known out.new) }
 {
     match refusal_line(alloc, refusal) {
         Ok(line) => print(line.as_bytes(), refusal.status(), out),

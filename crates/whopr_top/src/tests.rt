@@ -1,6 +1,9 @@
-// The rows of `cc` over files in memory, its image word for word, and its limits.
+// The rows of `cc` over files in memory, its image word for word, its limits, and what it puts piece by piece.
+ghost use Rattle.std.specs.Prelude.{OnOk, IsErrOf, None, Some, map};
+ghost use Rattle.outer_files.specs.Outside.{TookPiece, FailedPiece, LackedMemory};
+
 use super::{plain, whopr};
-use outer_files::{MemoryFiles, MemorySink};
+use outer_files::{MemoryFiles, MemorySink, Sink, WriteFault};
 use std::alloc::{AllocError, Global};
 use std::test::Fail;
 
@@ -152,5 +155,66 @@ fn limits(rt: HostRuntime) -> Result<(), Fail> {
         out.taken(),
         b"4 limit FileBytes 16777217 16777216\n".as_slice()
     );
+    Ok(())
+}
+
+// A sink that tells each piece that was put, and not what it took. The first puts fail, as many as it is told.
+#[derive(Drop)]
+struct Journal {
+    pieces: Vec<Vec<u8>>,
+    failing: u64,
+    puts: u64,
+    faults: u64,
+}
+
+impl Sink for Journal {
+    ghost known = { λ s. record { taken = None; pieces = Some (map (λ p. p.items) s.pieces.items); puts = s.puts; faults = s.faults } };
+
+    fn put(&mut self, bytes: &[u8]) -> Result<(), WriteFault> {
+        self.puts = self.puts.saturating_add(1);
+        let Ok(piece) = Vec::from_slice(*self.pieces.allocator(), bytes) else {
+            return Err(WriteFault::NoMemory);
+        };
+        if self.pieces.push(piece).is_err() {
+            return Err(WriteFault::NoMemory);
+        }
+        if self.failing > 0 {
+            self.failing -= 1;
+            self.faults = self.faults.saturating_add(1);
+            return Err(WriteFault::Failed);
+        }
+        Ok(())
+    }
+}
+
+// All that a command prints is one put; after a fault the line for that is put once, whatever comes of it.
+#[test]
+fn pieces(rt: HostRuntime) -> Result<(), Fail> {
+    let alloc = rt.alloc();
+    let rows: [(&str, u64, u8, &[&str]); 4] = [
+        ("cc h.g h.img", 0, 0, &[]),
+        ("cc h.g", 0, 2, &["2 words\n"]),
+        ("cc h.g", 1, 2, &["2 words\n", "6 write -\n"]),
+        ("cc x h.img", 2, 5, &["5 read x\n", "6 write -\n"]),
+    ];
+    for (line, failing, status, pieces) in rows {
+        let words = words_of(alloc, line)?;
+        let mut files = one_file(alloc, "h.g", TEXT.as_bytes(), &[])?;
+        let mut out = Journal {
+            pieces: Vec::new(alloc),
+            failing,
+            puts: 0,
+            faults: 0,
+        };
+        assert_eq!(rt;
+            plain(alloc, &words, &mut files, &mut out),
+            status,
+            "{line}"
+        );
+        assert_eq!(rt; out.pieces.len(), pieces.len(), "{line}");
+        for (piece, want) in out.pieces.iter().zip(pieces) {
+            assert_eq!(rt; piece.as_slice(), want.as_bytes(), "{line}");
+        }
+    }
     Ok(())
 }

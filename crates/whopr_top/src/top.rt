@@ -58,7 +58,7 @@ pub fn plain<F: FileStore, K: Sink>(
 
     // What the sink took: with 0 nothing is put.
     ensures quiet { result ≡ 0 → out.new ≡ out.old }
-    ensures printed { WhereTold (K.taken out.old) (K.taken out.new) (PutsLine (command_of (words_of words.now)) result (Rose (K.faults out.old) (K.faults out.new))) }
+    ensures printed { result ≢ 0 → PutsLine (command_of (words_of words.now)) result (K.known out.old) (K.known out.new) }
 {
     match run(alloc, words, files) {
         Ok(()) => 0,
@@ -95,7 +95,7 @@ pub fn whopr<F: FileStore, K: Sink>(
 
     // What the sink took: with 0 nothing is put.
     ensures quiet { result ≡ 0 → out.new ≡ out.old }
-    ensures printed { WhereTold (K.taken out.old) (K.taken out.new) (PutsLine (command_of (words_of words.now)) result (Rose (K.faults out.old) (K.faults out.new))) }
+    ensures printed { result ≢ 0 → PutsLine (command_of (words_of words.now)) result (K.known out.old) (K.known out.new) }
 {
     plain(alloc, words, files, out)
 }

@@ -53,19 +53,26 @@ state_after (Ended status) = states.Ended status
 state_after (Trapped address) = states.Trapped address
 
 -- an event tells how the machine stands after the step
-abbrev pub Tells : Event → Segments → Standing → Type 0
-Tells Quiet m (At s) = Unit {0}
-Tells Quiet m (EndedWith status output) = ⊥
-Tells Quiet m (TrappedAt address output) = ⊥
-Tells (Wrote a n) m (At s) = (0 < n) × InOneSegment m a n
-Tells (Wrote a n) m (EndedWith status output) = ⊥
-Tells (Wrote a n) m (TrappedAt address output) = ⊥
-Tells (Ended told) m (At s) = ⊥
-Tells (Ended told) m (EndedWith status output) = told ≡ status
-Tells (Ended told) m (TrappedAt address output) = ⊥
-Tells (Trapped told) m (At s) = ⊥
-Tells (Trapped told) m (EndedWith status output) = ⊥
-Tells (Trapped told) m (TrappedAt address output) = told ≡ address
+abbrev pub Tells : Event → Standing → Type 0
+Tells Quiet (At s) = Unit {0}
+Tells Quiet (EndedWith status output) = ⊥
+Tells Quiet (TrappedAt address output) = ⊥
+Tells (Wrote a n) (At s) = Unit {0}
+Tells (Wrote a n) (EndedWith status output) = ⊥
+Tells (Wrote a n) (TrappedAt address output) = ⊥
+Tells (Ended told) (At s) = ⊥
+Tells (Ended told) (EndedWith status output) = told ≡ status
+Tells (Ended told) (TrappedAt address output) = ⊥
+Tells (Trapped told) (At s) = ⊥
+Tells (Trapped told) (EndedWith status output) = ⊥
+Tells (Trapped told) (TrappedAt address output) = told ≡ address
+
+-- the bytes that an event names are some, and lie in one segment
+abbrev pub NamesBytes : Event → Segments → Type 0
+NamesBytes Quiet m = Unit {0}
+NamesBytes (Wrote a n) m = (0 < n) × InOneSegment m a n
+NamesBytes (Ended status) m = Unit {0}
+NamesBytes (Trapped address) m = Unit {0}
 
 -- why an image was not loaded: its first fault, or want of memory for one that has none
 abbrev pub IsCause : LoadError → Option ℕ → Type 0

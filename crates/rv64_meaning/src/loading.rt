@@ -15,10 +15,13 @@ const HEADER: usize = 176;
 
 // Where the text stands in the file and in memory.
 const TEXT_OFFSET: usize = 0x1000;
+
 const TEXT_START: u64 = 0x10000;
 
 const PAGE: u64 = 0x1000;
+
 const MOST_TEXT: u64 = 1 << 27;
+
 const MOST_DATA: u64 = 1 << 28;
 
 // A field of the header by its offset, its width in bytes, and its number.

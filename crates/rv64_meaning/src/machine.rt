@@ -4,8 +4,7 @@ ghost use Rattle.std.specs.Prelude.{◌≡◌, ℕ, ◌<◌, List, [], ◌+◌, 
 ghost use Rattle.rv64_meaning.specs.Machine.{State, At, next, after, step, follow, outcome_of, bytes_from};
 ghost use Rattle.rv64_meaning.specs.Loading.{load_fault_of, segments_of, start_of};
 ghost use Rattle.rv64_meaning.specs.View.{state_of, InOneSegment};
-ghost use Rattle.rv64_meaning.specs.Standings.{segments_of_machine, memory_of_machine, standing_of, is_over, outcome_by, written_by, output_by, Tells, IsCause};
-
+ghost use Rattle.rv64_meaning.specs.Standings.{segments_of_machine, memory_of_machine, standing_of, is_over, outcome_by, written_by, output_by, Tells, NamesBytes, IsCause};
 ghost use Rattle.std.specs.Option.{ForSome};
 ghost use Rattle.rv64_isa.specs.Words.{InRange};
 ghost use Rattle.rv64_meaning.specs.declared.event.MachineState.TheVariants.{Running};
@@ -49,7 +48,8 @@ impl Machine {
     pub fn step(&mut self) -> Event
         ensures segments { segments_of_machine self.new ≡ segments_of_machine self.old }
         ensures moves { (output : List ℕ) → standing_of self.new (output ++ written_by self.new result) ≡ next (segments_of_machine self.old) (standing_of self.old output) }
-        ensures told { Tells result (segments_of_machine self.new) (standing_of self.new []) }
+        ensures told { Tells result (standing_of self.new []) }
+        ensures named { NamesBytes result (segments_of_machine self.new) }
     {
         match self.state {
             MachineState::Running => {
@@ -101,7 +101,8 @@ impl Machine {
         ensures segments { segments_of_machine self.new ≡ segments_of_machine self.old }
         ensures moves { (output : List ℕ) → let s = record (state_of self.old.hart) { output = output } in standing_of self.new (output ++ written_by self.new result) ≡ follow (step (segments_of_machine self.old) fetched s) s }
         ensures written { written_by self.new result ≡ output_by (step (segments_of_machine self.old) fetched (state_of self.old.hart)) }
-        ensures told { Tells result (segments_of_machine self.new) (standing_of self.new []) }
+        ensures told { Tells result (standing_of self.new []) }
+        ensures named { NamesBytes result (segments_of_machine self.new) }
     {
         let event = self.hart.perform(fetched);
         self.state = event.state();

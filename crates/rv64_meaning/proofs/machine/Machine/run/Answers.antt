@@ -24,7 +24,7 @@ returns-then-is_over-clause-outcome c =
     let within : made ≤ c.args.n = omega (arith, c.loop-made-test.true) in
     outcome_stands m.state (state_of m.hart) c.loop-made.out.items
     ∙ ap outcome_of (over_after (segments_of_machine c.args.self.now) made c.args.n (standing_of c.args.self.now c.args.out.now.items) m.state (state_of m.hart) c.loop-made.out.items
-      within (sym c.is_over.ensures ∙ c.if-is_over.true) c.loop-made.invariant.stands)
+    within (sym c.is_over.ensures ∙ c.if-is_over.true) c.loop-made.invariant.stands)
 
 pub loop-made-preserved : goal.loop-made-preserved
 loop-made-preserved c =
@@ -34,10 +34,10 @@ loop-made-preserved c =
     record {
       segments = c.in_ok-advance.ensures.segments ∙ inv.segments;
       stands =
-        c.in_ok-advance.ensures.made
-        ∙ ap (λ m. next m (standing_of c.loop-made.self c.loop-made.out.items)) inv.segments
-        ∙ ap (next before) inv.stands
-        ∙ sym (after_one before c.loop-made._made start);
+          c.in_ok-advance.ensures.made
+          ∙ ap (λ m. next m (standing_of c.loop-made.self c.loop-made.out.items)) inv.segments
+          ∙ ap (next before) inv.stands
+          ∙ sym (after_one before c.loop-made._made start);
     }
 
 pub returns-in_err-advance-clause-no_memory : goal.returns-in_err-advance-clause-no_memory

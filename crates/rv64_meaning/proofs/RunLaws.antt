@@ -14,7 +14,7 @@ after-add m (suc n) k p =
     ap (λ j. after m j p) e ∙ after-add m n k (next m p)
 
 -- a standing that is over
-stays : (m : Segments) (k : ℕ) (p : Standing) → IsOver (outcome_of p) → after m k p ≡ p
+pub stays : (m : Segments) (k : ℕ) (p : Standing) → IsOver (outcome_of p) → after m k p ≡ p
 stays m k (At s) h = absurd h
 stays m zero (EndedWith status output) h = refl
 stays m (suc k) (EndedWith status output) h = stays m k (EndedWith status output) h

@@ -1,10 +1,12 @@
 //! What each instruction does to the hart.
 
 ghost use Rattle.std.specs.Prelude.{◌≡◌, ℕ, ◌+◌, ◌<◌, ◌≤◌, ◌^◌, IfSome, IsTrue, length, if◌then◌else◌};
+ghost use Rattle.std.specs.Option.{ForSome};
 ghost use Rattle.rv64_isa.specs.Words.{InRange};
 ghost use Rattle.rv64_meaning.specs.Machine.{Go, Trap, State, read_reg, put, jump, branch, load_to, store_from, read_input, write_output, service, effect, fetch, step};
 ghost use Rattle.rv64_meaning.specs.Arithmetic.{sign_extended, of_word};
 ghost use Rattle.rv64_meaning.specs.View.{segments_of_hart, state_of, Does};
+ghost use Rattle.rv64_meaning.specs.Standings.{output_by};
 
 use crate::arithmetic::*;
 use crate::bytes::word;
@@ -291,10 +293,11 @@ impl Hart {
         }
     }
 
-    // The instruction at the program counter, if the text has one there.
-    fn fetch(&self) -> Option<Instr>
+    /// The instruction at the program counter, if the text has one there.
+    pub(crate) fn fetch(&self) -> Option<Instr>
         ensures value { result ≡ fetch (segments_of_hart self.now) self.now.pc }
-        ensures found { IfSome result (λ i. InRange i × (self.now.pc + 4 < 2 ^ 64)) }
+        ensures found { IfSome result (λ i. InRange i) }
+        ensures pc { IfSome result (λ i. self.now.pc + 4 < 2 ^ 64) }
     {
         if self.pc % 4 == 0 && self.in_text(self.pc, 4) {
             let at = (self.pc - 0x10000) as usize;
@@ -304,13 +307,40 @@ impl Hart {
         }
     }
 
-    /// One step of the machine: does the instruction at the program counter, or traps. After an end or a trap nothing has changed.
-    pub fn step(&mut self) -> Event
-        ensures { Does (step (segments_of_hart self.old) (fetch (segments_of_hart self.old) self.old.pc) (state_of self.old)) result self.old self.new }
+    /// What the machine does with what was fetched: an instruction, or a trap. At an end or a trap nothing changes.
+    pub(crate) fn perform(&mut self, fetched: Option<Instr>) -> Event
+        requires in_range { ForSome fetched (λ i. InRange i) }
+        requires pc { ForSome fetched (λ i. self.old.pc + 4 < 2 ^ 64) }
+        ensures { Does (step (segments_of_hart self.old) fetched (state_of self.old)) result self.old self.new }
     {
-        match self.fetch() {
+        match fetched {
             Some(instr) => self.act(instr),
             None => self.trap(),
+        }
+    }
+
+    // The bytes that the program asks to be written, if they lie in one segment.
+    #[tactic(auto, unfolding(crate::specs::Machine::bytes_from))]
+    fn asked(&self) -> &[u8]
+        ensures { result.now ≡ output_by (write_output (segments_of_hart self.now) (state_of self.now) (read_reg (state_of self.now) 11) (read_reg (state_of self.now) 12)) }
+    {
+        let (a1, a2) = (self.x(11), self.x(12));
+        if a2 == 0 {
+            &[]
+        } else if self.in_text(a1, a2) || self.in_data(a1, a2) {
+            self.bytes(a1, a2)
+        } else {
+            &[]
+        }
+    }
+
+    /// The bytes that the machine writes with what was fetched.
+    pub(crate) fn writes(&self, fetched: Option<Instr>) -> &[u8]
+        ensures { result.now ≡ output_by (step (segments_of_hart self.now) fetched (state_of self.now)) }
+    {
+        match fetched {
+            Some(Instr::Ecall) if self.x(17) == 64 && self.x(10) == 1 => self.asked(),
+            _ => &[],
         }
     }
 }

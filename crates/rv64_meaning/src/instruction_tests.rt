@@ -1,0 +1,562 @@
+//! Each instruction on edge values, with results that qemu 7.2 gives and words that GNU as 2.40 makes (`tools/machine-vectors`),
+//! and each trap and environment call by the manual.
+
+use super::*;
+use crate::hart::Hart;
+use std::alloc::{AllocError, Global};
+use std::test::Fail;
+
+// The word of an instruction on t0 and t1 with result t2; t0 and t1; t2 behind it.
+const RESULTS: [(u32, u64, u64, u64); 102] = [
+    // add
+    (
+        0x0062_83b3,
+        0x8000_0000_0000_0000,
+        0xffff_ffff_ffff_ffff,
+        0x7fff_ffff_ffff_ffff,
+    ),
+    (
+        0x0062_83b3,
+        0x89ab_cdef_8123_4567,
+        0x1000_0000_0000_0025,
+        0x99ab_cdef_8123_458c,
+    ),
+    // sll
+    (0x0062_93b3, 0x8000_0000_0000_0000, 0xffff_ffff_ffff_ffff, 0),
+    (
+        0x0062_93b3,
+        0x89ab_cdef_8123_4567,
+        0x1000_0000_0000_0025,
+        0x2468_ace0_0000_0000,
+    ),
+    // slt
+    (0x0062_a3b3, 0x8000_0000_0000_0000, 0xffff_ffff_ffff_ffff, 1),
+    (0x0062_a3b3, 0x89ab_cdef_8123_4567, 0x1000_0000_0000_0025, 1),
+    // sltu
+    (0x0062_b3b3, 0x8000_0000_0000_0000, 0xffff_ffff_ffff_ffff, 1),
+    (0x0062_b3b3, 0x89ab_cdef_8123_4567, 0x1000_0000_0000_0025, 0),
+    // xor
+    (
+        0x0062_c3b3,
+        0x8000_0000_0000_0000,
+        0xffff_ffff_ffff_ffff,
+        0x7fff_ffff_ffff_ffff,
+    ),
+    (
+        0x0062_c3b3,
+        0x89ab_cdef_8123_4567,
+        0x1000_0000_0000_0025,
+        0x99ab_cdef_8123_4542,
+    ),
+    // srl
+    (0x0062_d3b3, 0x8000_0000_0000_0000, 0xffff_ffff_ffff_ffff, 1),
+    (
+        0x0062_d3b3,
+        0x89ab_cdef_8123_4567,
+        0x1000_0000_0000_0025,
+        0x44d_5e6f,
+    ),
+    // or
+    (
+        0x0062_e3b3,
+        0x8000_0000_0000_0000,
+        0xffff_ffff_ffff_ffff,
+        0xffff_ffff_ffff_ffff,
+    ),
+    (
+        0x0062_e3b3,
+        0x89ab_cdef_8123_4567,
+        0x1000_0000_0000_0025,
+        0x99ab_cdef_8123_4567,
+    ),
+    // and
+    (
+        0x0062_f3b3,
+        0x8000_0000_0000_0000,
+        0xffff_ffff_ffff_ffff,
+        0x8000_0000_0000_0000,
+    ),
+    (
+        0x0062_f3b3,
+        0x89ab_cdef_8123_4567,
+        0x1000_0000_0000_0025,
+        37,
+    ),
+    // sub
+    (
+        0x4062_83b3,
+        0x8000_0000_0000_0000,
+        0xffff_ffff_ffff_ffff,
+        0x8000_0000_0000_0001,
+    ),
+    (
+        0x4062_83b3,
+        0x89ab_cdef_8123_4567,
+        0x1000_0000_0000_0025,
+        0x79ab_cdef_8123_4542,
+    ),
+    // sra
+    (
+        0x4062_d3b3,
+        0x8000_0000_0000_0000,
+        0xffff_ffff_ffff_ffff,
+        0xffff_ffff_ffff_ffff,
+    ),
+    (
+        0x4062_d3b3,
+        0x89ab_cdef_8123_4567,
+        0x1000_0000_0000_0025,
+        0xffff_ffff_fc4d_5e6f,
+    ),
+    // addw
+    (
+        0x0062_83bb,
+        0x8000_0000_0000_0000,
+        0xffff_ffff_ffff_ffff,
+        0xffff_ffff_ffff_ffff,
+    ),
+    (
+        0x0062_83bb,
+        0x89ab_cdef_8123_4567,
+        0x1000_0000_0000_0025,
+        0xffff_ffff_8123_458c,
+    ),
+    // sllw
+    (0x0062_93bb, 0x8000_0000_0000_0000, 0xffff_ffff_ffff_ffff, 0),
+    (
+        0x0062_93bb,
+        0x89ab_cdef_8123_4567,
+        0x1000_0000_0000_0025,
+        0x2468_ace0,
+    ),
+    // srlw
+    (0x0062_d3bb, 0x8000_0000_0000_0000, 0xffff_ffff_ffff_ffff, 0),
+    (
+        0x0062_d3bb,
+        0x89ab_cdef_8123_4567,
+        0x1000_0000_0000_0025,
+        0x409_1a2b,
+    ),
+    // subw
+    (0x4062_83bb, 0x8000_0000_0000_0000, 0xffff_ffff_ffff_ffff, 1),
+    (
+        0x4062_83bb,
+        0x89ab_cdef_8123_4567,
+        0x1000_0000_0000_0025,
+        0xffff_ffff_8123_4542,
+    ),
+    // sraw
+    (0x4062_d3bb, 0x8000_0000_0000_0000, 0xffff_ffff_ffff_ffff, 0),
+    (
+        0x4062_d3bb,
+        0x89ab_cdef_8123_4567,
+        0x1000_0000_0000_0025,
+        0xffff_ffff_fc09_1a2b,
+    ),
+    // mul
+    (
+        0x0262_83b3,
+        0x8000_0000_0000_0000,
+        0xffff_ffff_ffff_ffff,
+        0x8000_0000_0000_0000,
+    ),
+    (
+        0x0262_83b3,
+        0x89ab_cdef_8123_4567,
+        0x1000_0000_0000_0025,
+        0x55d4_c39d_aa19_07e3,
+    ),
+    // mulh
+    (0x0262_93b3, 0x8000_0000_0000_0000, 0xffff_ffff_ffff_ffff, 0),
+    (
+        0x0262_93b3,
+        0x89ab_cdef_8123_4567,
+        0x1000_0000_0000_0025,
+        0xf89a_bcde_f812_3445,
+    ),
+    // mulhsu
+    (
+        0x0262_a3b3,
+        0x8000_0000_0000_0000,
+        0xffff_ffff_ffff_ffff,
+        0x8000_0000_0000_0000,
+    ),
+    (
+        0x0262_a3b3,
+        0x89ab_cdef_8123_4567,
+        0x1000_0000_0000_0025,
+        0xf89a_bcde_f812_3445,
+    ),
+    // mulhu
+    (
+        0x0262_b3b3,
+        0x8000_0000_0000_0000,
+        0xffff_ffff_ffff_ffff,
+        0x7fff_ffff_ffff_ffff,
+    ),
+    (
+        0x0262_b3b3,
+        0x89ab_cdef_8123_4567,
+        0x1000_0000_0000_0025,
+        0x89a_bcde_f812_346a,
+    ),
+    // div
+    (
+        0x0262_c3b3,
+        0x8000_0000_0000_0000,
+        0xffff_ffff_ffff_ffff,
+        0x8000_0000_0000_0000,
+    ),
+    (
+        0x0262_c3b3,
+        0x89ab_cdef_8123_4567,
+        0x1000_0000_0000_0025,
+        0xffff_ffff_ffff_fff9,
+    ),
+    (0x0262_c3b3, 0xfedc_ba98_ffff_fff9, 0, 0xffff_ffff_ffff_ffff),
+    (0x0262_c3b3, 0xffff_ffff_ffff_fff9, 2, 0xffff_ffff_ffff_fffd),
+    // divu
+    (0x0262_d3b3, 0x8000_0000_0000_0000, 0xffff_ffff_ffff_ffff, 0),
+    (0x0262_d3b3, 0x89ab_cdef_8123_4567, 0x1000_0000_0000_0025, 8),
+    (0x0262_d3b3, 0xfedc_ba98_ffff_fff9, 0, 0xffff_ffff_ffff_ffff),
+    (0x0262_d3b3, 0xffff_ffff_ffff_fff9, 2, 0x7fff_ffff_ffff_fffc),
+    // rem
+    (0x0262_e3b3, 0x8000_0000_0000_0000, 0xffff_ffff_ffff_ffff, 0),
+    (
+        0x0262_e3b3,
+        0x89ab_cdef_8123_4567,
+        0x1000_0000_0000_0025,
+        0xf9ab_cdef_8123_466a,
+    ),
+    (0x0262_e3b3, 0xfedc_ba98_ffff_fff9, 0, 0xfedc_ba98_ffff_fff9),
+    (0x0262_e3b3, 0xffff_ffff_ffff_fff9, 2, 0xffff_ffff_ffff_ffff),
+    // remu
+    (
+        0x0262_f3b3,
+        0x8000_0000_0000_0000,
+        0xffff_ffff_ffff_ffff,
+        0x8000_0000_0000_0000,
+    ),
+    (
+        0x0262_f3b3,
+        0x89ab_cdef_8123_4567,
+        0x1000_0000_0000_0025,
+        0x9ab_cdef_8123_443f,
+    ),
+    (0x0262_f3b3, 0xfedc_ba98_ffff_fff9, 0, 0xfedc_ba98_ffff_fff9),
+    (0x0262_f3b3, 0xffff_ffff_ffff_fff9, 2, 1),
+    // mulw
+    (0x0262_83bb, 0x8000_0000_0000_0000, 0xffff_ffff_ffff_ffff, 0),
+    (
+        0x0262_83bb,
+        0x89ab_cdef_8123_4567,
+        0x1000_0000_0000_0025,
+        0xffff_ffff_aa19_07e3,
+    ),
+    // divw
+    (
+        0x0262_c3bb,
+        0xffff_ffff_8000_0000,
+        0xffff_ffff_ffff_ffff,
+        0xffff_ffff_8000_0000,
+    ),
+    (
+        0x0262_c3bb,
+        0x89ab_cdef_8123_4567,
+        0x1000_0000_0000_0025,
+        0xffff_ffff_fc92_4026,
+    ),
+    (0x0262_c3bb, 0xfedc_ba98_ffff_fff9, 0, 0xffff_ffff_ffff_ffff),
+    (0x0262_c3bb, 0xffff_ffff_ffff_fff9, 2, 0xffff_ffff_ffff_fffd),
+    // divuw
+    (0x0262_d3bb, 0xffff_ffff_8000_0000, 0xffff_ffff_ffff_ffff, 0),
+    (
+        0x0262_d3bb,
+        0x89ab_cdef_8123_4567,
+        0x1000_0000_0000_0025,
+        0x37d_7e6a,
+    ),
+    (0x0262_d3bb, 0xfedc_ba98_ffff_fff9, 0, 0xffff_ffff_ffff_ffff),
+    (0x0262_d3bb, 0xffff_ffff_ffff_fff9, 2, 0x7fff_fffc),
+    // remw
+    (0x0262_e3bb, 0xffff_ffff_8000_0000, 0xffff_ffff_ffff_ffff, 0),
+    (
+        0x0262_e3bb,
+        0x89ab_cdef_8123_4567,
+        0x1000_0000_0000_0025,
+        0xffff_ffff_ffff_ffe9,
+    ),
+    (0x0262_e3bb, 0xfedc_ba98_ffff_fff9, 0, 0xffff_ffff_ffff_fff9),
+    (0x0262_e3bb, 0xffff_ffff_ffff_fff9, 2, 0xffff_ffff_ffff_ffff),
+    // remuw
+    (
+        0x0262_f3bb,
+        0xffff_ffff_8000_0000,
+        0xffff_ffff_ffff_ffff,
+        0xffff_ffff_8000_0000,
+    ),
+    (
+        0x0262_f3bb,
+        0x89ab_cdef_8123_4567,
+        0x1000_0000_0000_0025,
+        21,
+    ),
+    (0x0262_f3bb, 0xfedc_ba98_ffff_fff9, 0, 0xffff_ffff_ffff_fff9),
+    (0x0262_f3bb, 0xffff_ffff_ffff_fff9, 2, 1),
+    // addi
+    (0x8002_8393, 5, 0, 0xffff_ffff_ffff_f805),
+    (0x7ff2_8393, 0x7fff_ffff_ffff_ffff, 0, 0x8000_0000_0000_07fe),
+    // slti
+    (0x8002_a393, 5, 0, 0),
+    (0x7ff2_a393, 0x7fff_ffff_ffff_ffff, 0, 0),
+    // sltiu
+    (0x8002_b393, 5, 0, 1),
+    (0x7ff2_b393, 0x7fff_ffff_ffff_ffff, 0, 0),
+    // xori
+    (0x8002_c393, 5, 0, 0xffff_ffff_ffff_f805),
+    (0x7ff2_c393, 0x7fff_ffff_ffff_ffff, 0, 0x7fff_ffff_ffff_f800),
+    // ori
+    (0x8002_e393, 5, 0, 0xffff_ffff_ffff_f805),
+    (0x7ff2_e393, 0x7fff_ffff_ffff_ffff, 0, 0x7fff_ffff_ffff_ffff),
+    // andi
+    (0x8002_f393, 5, 0, 0),
+    (0x7ff2_f393, 0x7fff_ffff_ffff_ffff, 0, 0x7ff),
+    // addiw
+    (0x8002_839b, 5, 0, 0xffff_ffff_ffff_f805),
+    (0x7ff2_839b, 0x7fff_ffff_ffff_ffff, 0, 0x7fe),
+    // slli
+    (0x0012_9393, 0x89ab_cdef_8123_4567, 0, 0x1357_9bdf_0246_8ace),
+    (0x03f2_9393, 0x89ab_cdef_8123_4567, 0, 0x8000_0000_0000_0000),
+    // srli
+    (0x0012_d393, 0x89ab_cdef_8123_4567, 0, 0x44d5_e6f7_c091_a2b3),
+    (0x03f2_d393, 0x89ab_cdef_8123_4567, 0, 1),
+    // srai
+    (0x4012_d393, 0x89ab_cdef_8123_4567, 0, 0xc4d5_e6f7_c091_a2b3),
+    (0x43f2_d393, 0x89ab_cdef_8123_4567, 0, 0xffff_ffff_ffff_ffff),
+    // slliw
+    (0x0012_939b, 0x89ab_cdef_8123_4567, 0, 0x246_8ace),
+    (0x01f2_939b, 0x89ab_cdef_8123_4567, 0, 0xffff_ffff_8000_0000),
+    // srliw
+    (0x0002_d39b, 0x89ab_cdef_8123_4567, 0, 0xffff_ffff_8123_4567),
+    (0x01f2_d39b, 0x89ab_cdef_8123_4567, 0, 1),
+    // sraiw
+    (0x4002_d39b, 0x89ab_cdef_8123_4567, 0, 0xffff_ffff_8123_4567),
+    (0x41f2_d39b, 0x89ab_cdef_8123_4567, 0, 0xffff_ffff_ffff_ffff),
+    // lui
+    (0x0000_03b7, 0, 0, 0),
+    (0x7fff_f3b7, 0, 0, 0x7fff_f000),
+    (0x8000_03b7, 0, 0, 0xffff_ffff_8000_0000),
+    (0xffff_f3b7, 0, 0, 0xffff_ffff_ffff_f000),
+];
+
+// The word of a branch by 16 bytes on t0 and t1; t0 and t1; how far it goes.
+const BRANCHES: [(u32, u64, u64, u64); 18] = [
+    (0x0062_8863, 5, 5, 16), // beq
+    (0x0062_8863, 0xffff_ffff_ffff_ffff, 1, 4), // beq
+    (0x0062_8863, 1, 0xffff_ffff_ffff_ffff, 4), // beq
+    (0x0062_9863, 5, 5, 4), // bne
+    (0x0062_9863, 0xffff_ffff_ffff_ffff, 1, 16), // bne
+    (0x0062_9863, 1, 0xffff_ffff_ffff_ffff, 16), // bne
+    (0x0062_c863, 5, 5, 4), // blt
+    (0x0062_c863, 0xffff_ffff_ffff_ffff, 1, 16), // blt
+    (0x0062_c863, 1, 0xffff_ffff_ffff_ffff, 4), // blt
+    (0x0062_d863, 5, 5, 16), // bge
+    (0x0062_d863, 0xffff_ffff_ffff_ffff, 1, 4), // bge
+    (0x0062_d863, 1, 0xffff_ffff_ffff_ffff, 16), // bge
+    (0x0062_e863, 5, 5, 4), // bltu
+    (0x0062_e863, 0xffff_ffff_ffff_ffff, 1, 4), // bltu
+    (0x0062_e863, 1, 0xffff_ffff_ffff_ffff, 16), // bltu
+    (0x0062_f863, 5, 5, 16), // bgeu
+    (0x0062_f863, 0xffff_ffff_ffff_ffff, 1, 16), // bgeu
+    (0x0062_f863, 1, 0xffff_ffff_ffff_ffff, 4), // bgeu
+];
+
+// Loads into t2 from the data's start in t0.
+const LOADS: [(u32, u64); 10] = [
+    (0x0082_8383, 0xffff_ffff_ffff_ff87), // lb from 8
+    (0x00f2_8383, 0xffff_ffff_ffff_fff0), // lb from 15
+    (0x0082_9383, 0xffff_ffff_ffff_9687), // lh from 8
+    (0x00e2_9383, 0xffff_ffff_ffff_f0e1), // lh from 14
+    (0x0082_a383, 0xffff_ffff_b4a5_9687), // lw from 8
+    (0x00c2_a383, 0xffff_ffff_f0e1_d2c3), // lw from 12
+    (0x0082_b383, 0xf0e1_d2c3_b4a5_9687), // ld from 8
+    (0x00f2_c383, 240), // lbu from 15
+    (0x00e2_d383, 0xf0e1), // lhu from 14
+    (0x00c2_e383, 0xf0e1_d2c3), // lwu from 12
+];
+
+// Stores of t1 over the data, and the data's second half behind it.
+const STORES: [(u32, u64); 5] = [
+    (0x0062_8423, 0xf0e1_d2c3_b4a5_96ef), // sb at 8
+    (0x0062_87a3, 0xefe1_d2c3_b4a5_9687), // sb at 15
+    (0x0062_9723, 0xcdef_d2c3_b4a5_9687), // sh at 14
+    (0x0062_a623, 0x89ab_cdef_b4a5_9687), // sw at 12
+    (0x0062_b423, 0x123_4567_89ab_cdef), // sd at 8
+];
+
+const DATA: u64 = 0xf0e1_d2c3_b4a5_9687;
+
+// A machine before one word, with t0 and t1, and sixteen bytes of data from 0x11000 on.
+fn before(alloc: Global, word: u32, t0: u64, t1: u64) -> Result<Machine, AllocError> {
+    let mut bytes = Vec::with_capacity(alloc, 16)?;
+    bytes.resize(8, 0)?;
+    bytes.extend_from_slice(&DATA.to_le_bytes())?;
+    let mut registers = [0; 32];
+    registers[5] = t0;
+    registers[6] = t1;
+    let hart = Hart {
+        text: Vec::from_array(alloc, word.to_le_bytes())?,
+        data: bytes,
+        data_start: 0x11000,
+        registers,
+        pc: 0x10000,
+        input: Vec::from_array(alloc, [97, 98, 99])?,
+        read: 0,
+    };
+    Ok(Machine {
+        hart,
+        state: MachineState::Running,
+    })
+}
+
+#[test]
+fn results_of_instructions(rt: HostRuntime) -> Result<(), Fail> {
+    for (word, t0, t1, t2) in RESULTS {
+        let mut machine = before(rt.alloc(), word, t0, t1)?;
+        assert_eq!(rt; machine.step(), Event::Quiet, "{word:x}");
+        assert_eq!(rt;
+            machine.hart.registers[7],
+            t2,
+            "{word:x} of {t0:x} and {t1:x}"
+        );
+        assert_eq!(rt; machine.hart.pc, 0x10004);
+    }
+    for (word, t0, t1, distance) in BRANCHES {
+        let mut machine = before(rt.alloc(), word, t0, t1)?;
+        assert_eq!(rt; machine.step(), Event::Quiet, "{word:x}");
+        assert_eq!(rt;
+            machine.hart.pc,
+            0x10000 + distance,
+            "{word:x} on {t0:x} and {t1:x}"
+        );
+    }
+    Ok(())
+}
+
+#[test]
+fn loads_and_stores(rt: HostRuntime) -> Result<(), Fail> {
+    for (word, t2) in LOADS {
+        let mut machine = before(rt.alloc(), word, 0x11000, 0)?;
+        assert_eq!(rt; machine.step(), Event::Quiet, "{word:x}");
+        assert_eq!(rt; machine.hart.registers[7], t2, "{word:x}");
+    }
+    for (word, bytes) in STORES {
+        let mut machine = before(rt.alloc(), word, 0x11000, 0x0123_4567_89ab_cdef)?;
+        assert_eq!(rt; machine.step(), Event::Quiet, "{word:x}");
+        let kept = Vec::from_slice(rt.alloc(), &bytes.to_le_bytes())?;
+        assert_eq!(rt;
+            machine.hart.data.get(8..16),
+            Some(kept.as_slice()),
+            "{word:x}"
+        );
+    }
+    Ok(())
+}
+
+// By the manual (2.4, 2.5): auipc t2, 0x80000; jal t2, .+16; jalr t2, 3(t0), which clears the lowest bit.
+#[test]
+fn addresses(rt: HostRuntime) -> Result<(), Fail> {
+    let rows = [
+        (0x8000_0397, 0, 0xffff_ffff_8001_0000, 0x10004),
+        (0x0100_03ef, 0, 0x10004, 0x10010),
+        (0x0032_83e7, 0x10006, 0x10004, 0x10008),
+        (0x0032_83e7, u64::MAX, 0x10004, 2),
+    ];
+    for (word, t0, t2, pc) in rows {
+        let mut machine = before(rt.alloc(), word, t0, 0)?;
+        assert_eq!(rt; machine.step(), Event::Quiet, "{word:x}");
+        assert_eq!(rt; machine.hart.registers[7], t2, "{word:x}");
+        assert_eq!(rt; machine.hart.pc, pc, "{word:x}");
+    }
+    Ok(())
+}
+
+// Words and t0 at which the machine traps: words outside the table; misaligned; outside both segments or past the end of one;
+// stores to the text.
+const TRAPS: [(u32, u64); 18] = [
+    (0x0000_0000, 0),
+    (0x0010_0073, 0),
+    (0x0ff0_000f, 0),
+    (0x0012_9383, 0x11000),
+    (0x0022_a383, 0x11000),
+    (0x0042_b383, 0x11000),
+    (0x0062_90a3, 0x11000),
+    (0x0062_a123, 0x11000),
+    (0x0062_b223, 0x11000),
+    (0x0002_8383, 0xffff),
+    (0x0002_8383, 0x10004),
+    (0x0002_8383, 0x10fff),
+    (0x0002_8383, 0x11010),
+    (0x0002_b383, 0x10000),
+    (0x0002_b383, u64::MAX - 7),
+    (0x0062_b023, 0x11010),
+    (0x0062_8023, 0x10000),
+    (0x0000_0073, 0),
+];
+
+#[test]
+fn traps(rt: HostRuntime) -> Result<(), Fail> {
+    let trapped = Event::Trapped { address: 0x10000 };
+    for (word, t0) in TRAPS {
+        let mut machine = before(rt.alloc(), word, t0, 0)?;
+        assert_eq!(rt; machine.step(), trapped, "{word:x} at {t0:x}");
+        assert_eq!(rt; machine.step(), trapped, "{word:x} at {t0:x}");
+    }
+    // jalr zero, 0(t0) to an address that is no multiple of 4, and to the end of the text: the fetch there traps
+    for address in [0x10002, 0x10004, 0] {
+        let mut machine = before(rt.alloc(), 0x0002_8067, address, 0)?;
+        assert_eq!(rt; machine.step(), Event::Quiet);
+        assert_eq!(rt; machine.step(), Event::Trapped { address });
+    }
+    Ok(())
+}
+
+// a7, a0, a1 and a2 of an environment call; what the step does, and a0 behind it.
+#[test]
+fn environment_calls(rt: HostRuntime) -> Result<(), Fail> {
+    let trapped = Event::Trapped { address: 0x10000 };
+    let rows = [
+        (63, 0, 0x11000, 2, Event::Quiet, 2),
+        (63, 0, 0x11000, 9, Event::Quiet, 3),
+        (63, 0, 0, 0, Event::Quiet, 0),
+        (63, 0, 0x10000, 1, trapped, 0),
+        (63, 0, 0x1100f, 2, trapped, 0),
+        (63, 1, 0x11000, 1, trapped, 1),
+        (64, 1, 0x11000, 16, wrote(0x11000, 16), 16),
+        (64, 1, 0x10001, 3, wrote(0x10001, 3), 3),
+        (64, 1, 0, 0, Event::Quiet, 0),
+        (64, 1, 0x11000, 17, trapped, 1),
+        (64, 1, 0x10003, 2, trapped, 1),
+        (64, 2, 0x11000, 1, trapped, 2),
+        (93, 0x1ff, 0, 0, Event::Ended(255), 0x1ff),
+        (0, 0, 0, 0, trapped, 0),
+    ];
+    for (a7, a0, a1, a2, event, result) in rows {
+        let mut machine = before(rt.alloc(), 0x0000_0073, 0, 0)?;
+        machine.hart.registers[17] = a7;
+        machine.hart.registers[10] = a0;
+        machine.hart.registers[11] = a1;
+        machine.hart.registers[12] = a2;
+        assert_eq!(rt; machine.step(), event, "{a7} of {a0}, {a1:x}, {a2}");
+        assert_eq!(rt;
+            machine.hart.registers[10],
+            result,
+            "{a7} of {a0}, {a1:x}, {a2}"
+        );
+    }
+    Ok(())
+}
+
+fn wrote(address: u64, length: u64) -> Event {
+    Event::Wrote { address, length }
+}

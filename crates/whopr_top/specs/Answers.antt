@@ -1,10 +1,12 @@
 -- The statuses of a command, when each comes, and what is printed with it.
-use Rattle.std.specs.Prelude.{◌≡◌, ℕ, ◌==◌, ◌⊎◌, List, [], ◌∷◌, ◌++◌, Bool, if◌then◌else◌, Option, None, Some, codes}
+use Rattle.std.specs.Prelude.{◌≡◌, ◌≢◌, ℕ, ◌==◌, ◌⊎◌, List, [], ◌∷◌, ◌++◌, Bool, if◌then◌else◌, Option, None, Some, codes, IsTrue, IfSome, IsSomeAnd}
 use Rattle.std.specs.List.{list_any}
-use Rattle.std.specs.Option.{option_map_or}
-use Rattle.outer_files.specs.Outside.{Known, TookPiece, FailedPiece, LackedMemory}
-use Rattle.whopr_words.specs.Commands.{Spoken, Cc}
-use Rattle.whopr_top.specs.Reads.{reads_of, writes_of}
+use Rattle.std.specs.Option.{ForSome}
+use Rattle.outer_files.specs.Outside.{Contents, WhereTold, Rose, RoseBy, Known, TookPiece, FailedPiece, LackedMemory}
+use Rattle.whopr_words.specs.Commands.{Spoken, Cc, Run}
+use Rattle.whopr_top.specs.Reads.{reads_of, written_name, IsOverLimit, IsAbsent, IsReached}
+use Rattle.whopr_top.specs.Judgements.{line}
+use Rattle.whopr_top.specs.Outputs.{IsJudged, IsRefused, Done, CutShort, Refused, IsValid}
 
 -- A status comes exactly for its cause. Want of memory, 7, may come in its place.
 pub record Exactly (status result : ℕ) (cause : Type 0) : Type 0 where
@@ -13,33 +15,29 @@ pub record Exactly (status result : ℕ) (cause : Type 0) : Type 0 where
 
 -- the statuses that there are
 abbrev pub is_status : ℕ → Bool
-is_status status = list_any (λ s. s == status) (0 ∷ 2 ∷ 4 ∷ 5 ∷ 6 ∷ 7 ∷ 13 ∷ [])
+is_status status = list_any (λ s. s == status) (0 ∷ 2 ∷ 4 ∷ 5 ∷ 6 ∷ 7 ∷ 11 ∷ 13 ∷ [])
 
 -- the statuses of a command that was refused before its first write
 abbrev pub is_early : ℕ → Bool
-is_early status = list_any (λ s. s == status) (2 ∷ 4 ∷ 5 ∷ 13 ∷ [])
+is_early status = list_any (λ s. s == status) (2 ∷ 4 ∷ 5 ∷ 11 ∷ 13 ∷ [])
 
--- how many lines that name a file are printed with a status of 5 or 6
+-- the statuses of a command that what it read refuses
+abbrev pub is_judged : ℕ → Bool
+is_judged status = list_any (λ s. s == status) (11 ∷ 13 ∷ [])
+
+-- how many lines that name a file are printed with a status of 5 or 6, where the sink itself does not fail
 abbrev pub lines_of : ℕ → ℕ
 lines_of status = if status == 5 then 1 else if status == 6 then 1 else 0
 
-abbrev pub first_of : List (List ℕ) → List ℕ
-first_of [] = []
-first_of (name ∷ names) = name
-
-abbrev pub line : List ℕ → List ℕ
-line text = text ++ 10 ∷ []
-
--- the line of a status, by the command whose first file could not be read or written; with 0 there is none
-abbrev pub line_of : ℕ → Option Spoken → List ℕ
-line_of status command =
-    if status == 2 then line (codes "2 words")
-    else if status == 4 then line (codes "4 limit FileBytes 16777217 16777216")
-    else if status == 5 then line (codes "5 read " ++ option_map_or (λ c. first_of (reads_of c)) command [])
-    else if status == 6 then line (codes "6 write " ++ option_map_or (λ c. first_of (writes_of c)) command [])
-    else if status == 7 then line (codes "7 memory")
-    else if status == 13 then line (codes "13 unbuilt")
-    else []
+-- The text that is printed with a status, by what the command reads, where that is told.
+pub record IsLine (limit : ℕ) (held : Option Contents) (command : Option Spoken) (status : ℕ) (text : List ℕ) : Type 0 where
+  pub done : status ≡ 0 → IfSome held (λ files. IsSomeAnd command (λ c. (written : List ℕ) × IsJudged limit c files written text))
+  pub words : status ≡ 2 → text ≡ line (codes "2 words")
+  pub over : status ≡ 4 → text ≡ line (codes "4 limit FileBytes 16777217 16777216")
+  pub read : status ≡ 5 → IsSomeAnd command (λ c. (name : List ℕ) × IfSome held (λ files. IsReached limit files (reads_of c) name) × (text ≡ line (codes "5 read " ++ name)))
+  pub write : status ≡ 6 → IsSomeAnd command (λ c. text ≡ line (codes "6 write " ++ written_name c))
+  pub memory : status ≡ 7 → text ≡ line (codes "7 memory")
+  pub refused : IsTrue (is_judged status) → IfSome held (λ files. IsSomeAnd command (λ c. IsRefused limit c files status text))
 
 -- the line for the sink, where it fails itself
 abbrev pub sink_line : List ℕ
@@ -67,9 +65,18 @@ Puts text status result old new =
     ⊎ ((result ≡ after_fault status) × PutsFault text old new)
     ⊎ ((result ≡ 7) × LackedMemory old new)
 
--- the line of the status that is answered was put
-abbrev pub PutsLine : Option Spoken → ℕ → Known → Known → Type 0
-PutsLine command result old new =
-    TookPiece (line_of result command) old new
-    ⊎ PutsFault (line_of result command) old new
+-- the commands that print nothing when they were done
+abbrev pub IsQuiet : Option Spoken → Type 0
+IsQuiet None = ⊥
+IsQuiet (Some (Cc input output)) = Unit {0}
+IsQuiet (Some (Run image steps input output)) = ⊥
+
+-- What was put: nothing, by a command that is quiet; or the line of the status that is answered, and where the sink failed at
+-- it, the line for that; or the text of a command that was done, at which the sink failed; or nothing for want of memory.
+abbrev pub PutsLine : ℕ → Option Contents → Option Spoken → ℕ → Known → Known → Type 0
+PutsLine limit held command result old new =
+    ((result ≡ 0) × IsQuiet command × (new ≡ old))
+    ⊎ ((text : List ℕ) × IsLine limit held command result text × TookPiece text old new)
+    ⊎ ((result ≢ 0) × (text : List ℕ) × IsLine limit held command result text × PutsFault text old new)
+    ⊎ ((result ≡ 6) × (text : List ℕ) × IsLine limit held command 0 text × PutsFault text old new)
     ⊎ ((result ≡ 7) × LackedMemory old new)

@@ -1,4 +1,6 @@
 pub mod Reads
-pub mod Answers
+pub mod Judgements
 pub mod Outputs
+pub mod Answers
+pub mod Attempts
 pub mod Refusal

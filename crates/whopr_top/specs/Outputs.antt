@@ -1,43 +1,45 @@
--- What the files hold after `cc`, by the text that was compiled.
-use Rattle.std.specs.Prelude.{◌≡◌, ℕ, ◌≤◌, List, length, Option, None, Some, IsSomeAnd}
+-- What the files hold after a command, by what it read.
+use Rattle.std.specs.Prelude.{ℕ, List, Option, IsSomeAnd}
 use Rattle.outer_files.specs.Outside.{Contents, Writes, WritesPrefix}
-use Rattle.whopr_words.specs.Commands.{Spoken, Cc}
-use Rattle.first_form.specs.declared.form.FirstForm.{FirstForm}
-use Rattle.first_form.specs.Form.{Spells, IsUnbuilt}
-use Rattle.first_form.specs.Compiled.{IsImageOf}
+use Rattle.whopr_words.specs.Commands.{Spoken}
+use Rattle.whopr_top.specs.Reads.{reads_of, written_name, AreHeld}
+use Rattle.whopr_top.specs.Judgements.{Refuses, Gives, Judges}
 
--- the image of the text that is held as IN was written to OUT
-pub record Compiles (input output : List ℕ) (old new : Contents) : Type 0 where
+-- the contents that are held within the limit make the command give these bytes and print this text
+pub record IsJudged (limit : ℕ) (command : Spoken) (held : Contents) (written text : List ℕ) : Type 0 where
+  pub contents : List (List ℕ)
+  pub read : AreHeld limit held (reads_of command) contents
+  pub judged : Judges command contents (Gives written text)
+
+-- what the command gives was written
+pub record IsDone (limit : ℕ) (command : Spoken) (old new : Contents) : Type 0 where
+  pub written : List ℕ
   pub text : List ℕ
-  pub image : List ℕ
-  pub held : old input ≡ Some text
-  pub compiled : IsImageOf text image
-  pub writes : Writes output image old new
+  pub judged : IsJudged limit command old written text
+  pub writes : Writes (written_name command) written old new
 
 -- the same, cut short
-pub record CompilesInPart (input output : List ℕ) (old new : Contents) : Type 0 where
+pub record IsCutShort (limit : ℕ) (command : Spoken) (old new : Contents) : Type 0 where
+  pub written : List ℕ
   pub text : List ℕ
-  pub image : List ℕ
-  pub held : old input ≡ Some text
-  pub compiled : IsImageOf text image
-  pub writes : WritesPrefix output image old new
+  pub judged : IsJudged limit command old written text
+  pub writes : WritesPrefix (written_name command) written old new
 
--- the files after a command that was done
-abbrev pub Done : Option Spoken → Contents → Contents → Type 0
-Done None old new = ⊥
-Done (Some (Cc input output)) old new = Compiles input output old new
+abbrev pub Done : ℕ → Option Spoken → Contents → Contents → Type 0
+Done limit command old new = IsSomeAnd command (λ c. IsDone limit c old new)
 
--- the files after a command whose write was cut short
-abbrev pub CutShort : Option Spoken → Contents → Contents → Type 0
-CutShort None old new = ⊥
-CutShort (Some (Cc input output)) old new = CompilesInPart input output old new
+abbrev pub CutShort : ℕ → Option Spoken → Contents → Contents → Type 0
+CutShort limit command old new = IsSomeAnd command (λ c. IsCutShort limit c old new)
 
--- the text is held within the limit, and nothing spells it in the first form
-abbrev pub IsUnbuiltCommand : ℕ → Contents → Option Spoken → Type 0
-IsUnbuiltCommand limit held None = ⊥
-IsUnbuiltCommand limit held (Some (Cc input output)) = IsSomeAnd (held input) (λ text. (length text ≤ limit) × IsUnbuilt text)
+-- the contents that are held within the limit make the command be refused with this status and line
+pub record IsRefused (limit : ℕ) (command : Spoken) (held : Contents) (status : ℕ) (text : List ℕ) : Type 0 where
+  pub contents : List (List ℕ)
+  pub read : AreHeld limit held (reads_of command) contents
+  pub judged : Judges command contents (Refuses status text)
 
--- the text is held within the limit, and is a program of the first form
+abbrev pub Refused : ℕ → ℕ → Contents → Option Spoken → Type 0
+Refused status limit held command = IsSomeAnd command (λ c. (text : List ℕ) × IsRefused limit c held status text)
+
+-- the command is one that nothing that is held keeps from being done
 abbrev pub IsValid : ℕ → Contents → Option Spoken → Type 0
-IsValid limit held None = ⊥
-IsValid limit held (Some (Cc input output)) = IsSomeAnd (held input) (λ text. (length text ≤ limit) × (program : FirstForm) × Spells text program)
+IsValid limit held command = IsSomeAnd command (λ c. (written text : List ℕ) × IsJudged limit c held written text)

@@ -1,19 +1,28 @@
 -- What a command asks of the files that it reads and writes, for commands in general.
 use Rattle.std.specs.Prelude.{◌≡◌, ℕ, ◌<◌, ◌≤◌, ◌⊎◌, List, [], ◌∷◌, length, Option, None, Some, IsSomeAnd}
 use Rattle.outer_files.specs.Outside.{Contents, IsLonger}
-use Rattle.whopr_words.specs.Commands.{Spoken, Cc}
+use Rattle.whopr_words.specs.Commands.{Spoken, Cc, Run}
 
 -- the files that a command reads, in order
 abbrev pub reads_of : Spoken → List (List ℕ)
 reads_of (Cc input output) = input ∷ []
+reads_of (Run image steps input output) = image ∷ input ∷ []
 
--- the files that it writes, in order
-abbrev pub writes_of : Spoken → List (List ℕ)
-writes_of (Cc input output) = output ∷ []
+-- the file that it writes
+abbrev pub written_name : Spoken → List ℕ
+written_name (Cc input output) = output
+written_name (Run image steps input output) = output
 
 -- the file is held with no more bytes than the limit
 abbrev pub IsWithin : ℕ → Option (List ℕ) → Type 0
 IsWithin limit file = IsSomeAnd file (λ bytes. length bytes ≤ limit)
+
+-- the files are held with these contents, each within the limit
+abbrev pub AreHeld : ℕ → Contents → List (List ℕ) → List (List ℕ) → Type 0
+AreHeld limit held [] [] = Unit {0}
+AreHeld limit held [] (bytes ∷ more) = ⊥
+AreHeld limit held (name ∷ names) [] = ⊥
+AreHeld limit held (name ∷ names) (bytes ∷ more) = (held name ≡ Some bytes) × (length bytes ≤ limit) × AreHeld limit held names more
 
 -- one of the files is held and too long, and those before it can be read
 abbrev pub IsOverLimit : ℕ → Contents → List (List ℕ) → Type 0
@@ -24,3 +33,8 @@ IsOverLimit limit held (name ∷ names) = IsLonger limit (held name) ⊎ (IsWith
 abbrev pub IsAbsent : ℕ → Contents → List (List ℕ) → Type 0
 IsAbsent limit held [] = ⊥
 IsAbsent limit held (name ∷ names) = (held name ≡ None) ⊎ (IsWithin limit (held name) × IsAbsent limit held names)
+
+-- the name is one of the files, and those before it can be read
+abbrev pub IsReached : ℕ → Contents → List (List ℕ) → List ℕ → Type 0
+IsReached limit held [] name = ⊥
+IsReached limit held (first ∷ names) name = (name ≡ first) ⊎ (IsWithin limit (held first) × IsReached limit held names name)

@@ -1,9 +1,11 @@
 //! The top call: one command over any files and any sink.
 //!
 //! `specs/Answers.antt` says when each status comes and what is printed with it, `specs/Reads.antt` what a command asks of
-//! its files, `specs/Outputs.antt` what they hold afterwards.
+//! its files, `specs/Judgements.antt` what it comes to by their bytes, and `specs/Outputs.antt` what they hold afterwards.
 #![tactic(auto)]
 
+mod attempt;
+mod printed;
 mod refusal;
 mod report;
 mod top;

@@ -17,6 +17,8 @@ pub enum Refusal<'a> {
     Write(&'a str),
     /// 7: there was no memory.
     Memory,
+    /// 11: the image has its first fault at this byte.
+    Image(u64),
     /// 13: the text is none that is compiled so far.
     Unbuilt,
 }
@@ -32,6 +34,7 @@ impl Refusal<'_> {
             Refusal::Read(_) => 5,
             Refusal::Write(_) => 6,
             Refusal::Memory => 7,
+            Refusal::Image(_) => 11,
             Refusal::Unbuilt => 13,
         }
     }
@@ -47,6 +50,7 @@ pub fn refusal_line(alloc: Global, refusal: Refusal<'_>) -> Result<String, Alloc
         Refusal::Read(name) => format!(in alloc; "5 read {name}\n"),
         Refusal::Write(name) => format!(in alloc; "6 write {name}\n"),
         Refusal::Memory => format!(in alloc; "7 memory\n"),
+        Refusal::Image(offset) => format!(in alloc; "11 image {offset}\n"),
         Refusal::Unbuilt => format!(in alloc; "13 unbuilt\n"),
     }
 }

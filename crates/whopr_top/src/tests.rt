@@ -1,4 +1,4 @@
-// The rows of `cc` over files in memory, its image word for word, its limits, and what it puts piece by piece.
+// The rows of `cc` and `run` over files in memory, the image of `cc` word for word, its limits, and what is put piece by piece.
 ghost use Rattle.std.specs.Prelude.{OnOk, IsErrOf, None, Some, map};
 ghost use Rattle.outer_files.specs.Outside.{TookPiece, FailedPiece, LackedMemory};
 
@@ -155,6 +155,90 @@ fn limits(rt: HostRuntime) -> Result<(), Fail> {
         out.taken(),
         b"4 limit FileBytes 16777217 16777216\n".as_slice()
     );
+    Ok(())
+}
+
+// How the image of the first row is changed before it is run.
+#[derive(Clone, Copy)]
+enum Change {
+    Nothing,
+    Byte(usize, u8),
+    Word(usize),
+    CutTo(usize),
+}
+
+fn changed(alloc: Global, image: &[u8], change: Change) -> Result<Vec<u8>, AllocError> {
+    let mut bytes = Vec::from_slice(alloc, image)?;
+    match change {
+        Change::Nothing => {}
+        Change::Byte(offset, byte) => {
+            if let Some(place) = bytes.get_mut(offset) {
+                *place = byte;
+            }
+        }
+        Change::Word(offset) => {
+            for place in bytes.iter_mut().skip(offset).take(4) {
+                *place = 0;
+            }
+        }
+        Change::CutTo(len) => bytes.truncate(len),
+    }
+    Ok(bytes)
+}
+
+// A store that holds the image of the first row, changed, and an empty file.
+fn image_files(alloc: Global, change: Change, fail: &[u64]) -> Result<MemoryFiles, Fail> {
+    let mut files = one_file(alloc, "h.g", TEXT.as_bytes(), &[])?;
+    let mut out = MemorySink::new(Vec::new(alloc));
+    plain(alloc, &words_of(alloc, "cc h.g h.img")?, &mut files, &mut out);
+    let image = files.held("h.img").ok_or("no image")?;
+    let held = vec![in alloc;
+        (
+            String::from_str(alloc, "h.img")?,
+            changed(alloc, image, change)?,
+        ),
+        (String::from_str(alloc, "empty")?, Vec::new(alloc)),
+    ]?;
+    Ok(MemoryFiles::new(held, Vec::from_slice(alloc, fail)?))
+}
+
+// Each answer of `run`: how the machine stands after so many steps, and each refusal.
+#[test]
+fn runs(rt: HostRuntime) -> Result<(), Fail> {
+    let alloc = rt.alloc();
+    let none: &[u64] = &[];
+    let hi: Option<&[u8]> = Some(b"Hi");
+    let empty: Option<&[u8]> = Some(b"");
+    let line = "run h.img 36 empty o";
+    let rows = [
+        (line, Change::Nothing, none, none, 0, "ended 7\n", hi),
+        ("run h.img 18446744073709551615 empty o", Change::Nothing, none, none, 0, "ended 7\n", hi),
+        ("run h.img 35 empty o", Change::Nothing, none, none, 0, "running\n", hi),
+        ("run h.img 0 empty o", Change::Nothing, none, none, 0, "running\n", empty),
+        (line, Change::Word(0x1064), none, none, 0, "trapped 65636\n", empty),
+        (line, Change::CutTo(100), none, none, 11, "11 image 100\n", None),
+        (line, Change::Byte(4, 1), none, none, 11, "11 image 4\n", None),
+        ("run h.img 036 empty o", Change::Nothing, none, none, 2, "2 words\n", None),
+        ("run h.img 18446744073709551616 empty o", Change::Nothing, none, none, 2, "2 words\n", None),
+        ("run h.img 36 empty", Change::Nothing, none, none, 2, "2 words\n", None),
+        ("run x 36 empty o", Change::Nothing, none, none, 5, "5 read x\n", None),
+        ("run h.img 36 x o", Change::CutTo(100), none, none, 5, "5 read x\n", None),
+        (line, Change::Nothing, &[1], none, 5, "5 read empty\n", None),
+        (line, Change::Nothing, &[2], none, 6, "6 write o\n", None),
+        (line, Change::Nothing, none, &[0], 6, "6 write -\n", hi),
+    ];
+    for (line, change, fail_files, fail_puts, status, printed, written) in rows {
+        let words = words_of(alloc, line)?;
+        let mut files = image_files(alloc, change, fail_files)?;
+        let mut out = MemorySink::new(Vec::from_slice(alloc, fail_puts)?);
+        assert_eq!(rt;
+            plain(alloc, &words, &mut files, &mut out),
+            status,
+            "{line}"
+        );
+        assert_eq!(rt; out.taken(), printed.as_bytes(), "{line}");
+        assert_eq!(rt; files.held("o"), written, "{line}");
+    }
     Ok(())
 }
 

@@ -1,14 +1,23 @@
 // The words of a command.
-ghost use Rattle.std.specs.Prelude.{◌≡◌, MatchOption, None, Some};
+ghost use Rattle.std.specs.Prelude.{◌≡◌, MatchOption, None, Some, [], ◌∷◌, option_map};
 ghost use Rattle.std.specs.List.{list_all};
 ghost use Rattle.whopr_words.specs.Commands.{is_printable, words_of, is_file_name, command_of};
 ghost use Rattle.whopr_words.specs.Spoken.{spoken_of};
+
+use cursors::decimal;
 
 /// A command, which lends its words. A file name has 1 to 255 bytes from 0x21 to 0x7e.
 #[derive(Clone, Copy, Debug)]
 pub enum Command<'a> {
     /// Compiles the text `input` to the image `out`.
     Cc { input: &'a str, out: &'a str },
+    /// Runs `image` for at most `steps` steps with the bytes of `input`, and writes its output to `out`.
+    Run {
+        image: &'a str,
+        steps: u64,
+        input: &'a str,
+        out: &'a str,
+    },
 }
 
 /// The command that the words are, without the program's name; `None` where they are no command.
@@ -16,17 +25,36 @@ pub fn read_words(words: &[String]) -> Option<Command<'_>>
     ensures { MatchOption result (command_of (words_of words.now) ≡ None)
         (λ command. command_of (words_of words.now) ≡ Some (spoken_of command)) }
 {
-    let [verb, input, out] = words else {
-        return None;
-    };
-    if verb.as_str() == "cc" && is_file_name(input.as_str()) && is_file_name(out.as_str()) {
-        Some(Command::Cc {
-            input: input.as_str(),
-            out: out.as_str(),
-        })
+    match words {
+        [verb, input, out] => cc(verb.as_str(), input.as_str(), out.as_str()),
+        [verb, image, steps, input, out] => run(verb.as_str(), image.as_str(), steps.as_str(), input.as_str(), out.as_str()),
+        _ => None,
+    }
+}
+
+fn cc<'a>(verb: &str, input: &'a str, out: &'a str) -> Option<Command<'a>>
+    ensures { option_map spoken_of result ≡ command_of (verb.now ∷ input.now ∷ out.now ∷ []) }
+{
+    if verb == "cc" && is_file_name(input) && is_file_name(out) {
+        Some(Command::Cc { input, out })
     } else {
         None
     }
+}
+
+fn run<'a>(verb: &str, image: &'a str, steps: &str, input: &'a str, out: &'a str) -> Option<Command<'a>>
+    ensures { option_map spoken_of result ≡ command_of (verb.now ∷ image.now ∷ steps.now ∷ input.now ∷ out.now ∷ []) }
+{
+    if verb != "run" || !is_file_name(image) || !is_file_name(input) || !is_file_name(out) {
+        return None;
+    }
+    let steps = decimal(steps.as_bytes())?;
+    Some(Command::Run {
+        image,
+        steps,
+        input,
+        out,
+    })
 }
 
 fn is_file_name(word: &str) -> bool

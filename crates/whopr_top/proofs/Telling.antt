@@ -1,0 +1,106 @@
+-- What was put, from what was reported.
+use Rattle.std.proofs.Common.{◌≡◌, ◌≢◌, ℕ, List, Option, refl, sym, subst, inl, inr, arith, ◌⊎◌}
+use Rattle.std.specs.Prelude.{IsSomeAnd}
+use Rattle.std.proofs.lemmas.Grind.{common_steps}
+use Rattle.outer_files.specs.Outside.{Contents, Known, TookPiece, Rose}
+use Rattle.whopr_words.specs.Commands.{Spoken}
+use Rattle.whopr_top.specs.Answers.{Exactly, IsLine, PutsFault, PutsLine, after_fault, WasPut}
+use Rattle.whopr_top.specs.Attempts.{Lined, Judged}
+use Rattle.whopr_top.specs.Refusal.{Reports, refusal_line, status_of}
+use Rattle.whopr_top.specs.declared.refusal.Refusal.{Refusal}
+use Rattle.whopr_top.specs.declared.refusal.Refusal.TheVariants.{NoCommand, TooLong, Read, Write, Memory, Image, Unbuilt}
+
+line_is : (limit : ℕ) (held new : Option Contents) (command : Option Spoken) (before now status : ℕ) (text : List ℕ) → Lined limit command held status text
+    → Judged limit command held new before now status text → IsLine limit held command status text
+line_is limit held new command before now status text lined judged = record {
+  done = judged.done_line;
+  words = lined.words;
+  over = lined.over;
+  read = lined.read;
+  write = lined.write;
+  memory = lined.memory;
+  refused = judged.refused_line;
+}
+
+memory_line : (limit : ℕ) (held : Option Contents) (command : Option Spoken) → IsLine limit held command 7 (refusal_line Memory)
+memory_line limit held command = record {
+  done = λ is. grind (arith, is);
+  words = λ is. grind (arith, is);
+  over = λ is. grind (arith, is);
+  read = λ is. grind (arith, is);
+  write = λ is. grind (arith, is);
+  memory = λ is. refl;
+  refused = λ is. grind (arith, is);
+}
+
+same_status : (status : ℕ) → status ≢ 0 → after_fault status ≡ status
+same_status status not_0 = grind (arith, not_0)
+
+-- a refusal
+pub reported : (limit : ℕ) (held new : Option Contents) (command : Option Spoken) (before now status result : ℕ) (text : List ℕ) (old known : Known) → status ≢ 0
+    → Lined limit command held status text → Judged limit command held new before now status text → Reports text status result old known → PutsLine limit held command result old known
+reported limit held new command before now status result text old known not_0 lined judged (inl (inl (is, took))) =
+    inr (inl (text, subst (λ (n : ℕ). IsLine limit held command n text) (sym is) (line_is limit held new command before now status text lined judged), took))
+reported limit held new command before now status result text old known not_0 lined judged (inl (inr (inl (is, fault)))) =
+    let at : result ≡ status = grind (arith, is, same_status status not_0) in
+    inr (inr (inl ((λ zero. not_0 (grind (arith, at, zero))), text, subst (λ (n : ℕ). IsLine limit held command n text) (sym at) (line_is limit held new command before now status text lined judged), fault)))
+reported limit held new command before now status result text old known not_0 lined judged (inl (inr (inr lacked))) = inr (inr (inr (inr lacked)))
+reported limit held new command before now status result text old known not_0 lined judged (inr (inl (is, took))) =
+    inr (inl (refusal_line Memory, subst (λ (n : ℕ). IsLine limit held command n (refusal_line Memory)) (sym is) (memory_line limit held command), took))
+reported limit held new command before now status result text old known not_0 lined judged (inr (inr (inl (is, fault)))) =
+    inr (inr (inl ((λ zero. grind (arith, is, zero)), refusal_line Memory, subst (λ (n : ℕ). IsLine limit held command n (refusal_line Memory)) (sym is) (memory_line limit held command), fault)))
+reported limit held new command before now status result text old known not_0 lined judged (inr (inr (inr lacked))) = inr (inr (inr (inr lacked)))
+
+-- the text of a command that was done
+pub told : (limit : ℕ) (held new : Option Contents) (command : Option Spoken) (before now result : ℕ) (text : List ℕ) (old known : Known)
+    → Lined limit command held 0 text → Judged limit command held new before now 0 text → Reports text 0 result old known → PutsLine limit held command result old known
+told limit held new command before now result text old known lined judged (inl (inl (is, took))) =
+    inr (inl (text, subst (λ (n : ℕ). IsLine limit held command n text) (sym is) (line_is limit held new command before now 0 text lined judged), took))
+told limit held new command before now result text old known lined judged (inl (inr (inl (is, fault)))) =
+    inr (inr (inr (inl (is, text, line_is limit held new command before now 0 text lined judged, fault))))
+told limit held new command before now result text old known lined judged (inl (inr (inr lacked))) = inr (inr (inr (inr lacked)))
+told limit held new command before now result text old known lined judged (inr (inl (is, took))) =
+    inr (inl (refusal_line Memory, subst (λ (n : ℕ). IsLine limit held command n (refusal_line Memory)) (sym is) (memory_line limit held command), took))
+told limit held new command before now result text old known lined judged (inr (inr (inl (is, fault)))) =
+    inr (inr (inl ((λ zero. grind (arith, is, zero)), refusal_line Memory, subst (λ (n : ℕ). IsLine limit held command n (refusal_line Memory)) (sym is) (memory_line limit held command), fault)))
+told limit held new command before now result text old known lined judged (inr (inr (inr lacked))) = inr (inr (inr (inr lacked)))
+
+was_put_keeps : (piece : List ℕ) (before : ℕ) (old new : Known) → Rose before old.faults → WasPut piece old new → Rose before new.faults
+was_put_keeps piece before old new rose (inl took) = omega (arith, rose, took.never_falls)
+was_put_keeps piece before old new rose (inr (inl failed)) = omega (arith, rose, failed.rose)
+was_put_keeps piece before old new rose (inr (inr lacked)) = omega (arith, rose, lacked.faults)
+
+fault_rose : (text : List ℕ) (old new : Known) → PutsFault text old new → Rose old.faults new.faults
+fault_rose text old new fault = was_put_keeps _ old.faults fault.between new fault.failed.rose fault.line
+
+pub six_rose : (text : List ℕ) (result : ℕ) (old known : Known) → Reports text 0 result old known → result ≡ 6 → Rose old.faults known.faults
+six_rose text result old known (inl (inl (is, took))) six = grind (arith, is, six)
+six_rose text result old known (inl (inr (inl (is, fault)))) six = fault_rose text old known fault
+six_rose text result old known (inl (inr (inr (is, lacked)))) six = grind (arith, is, six)
+six_rose text result old known (inr (inl (is, took))) six = grind (arith, is, six)
+six_rose text result old known (inr (inr (inl (is, fault)))) six = grind (arith, is, six)
+six_rose text result old known (inr (inr (inr (is, lacked)))) six = grind (arith, is, six)
+
+-- ---- a status that want of memory may take the place of
+
+pub exactly_kept : (s status result : ℕ) (cause : Type 0) → (result ≡ status) ⊎ (result ≡ 7) → s ≢ 7 → (status ≢ 5 → Exactly s status cause) → result ≢ 5
+    → Exactly s result cause
+exactly_kept s status result cause (inl is) not_7 exact not_5 =
+    subst (λ (n : ℕ). Exactly s n cause) (sym is) (exact (λ five. not_5 (grind (arith, is, five))))
+exactly_kept s status result cause (inr is) not_7 exact not_5 =
+    record { only = λ same. absurd (not_7 (grind (arith, is, same))); always = λ holds. inr is }
+
+pub fault_kept : (status result : ℕ) → (result ≡ status) ⊎ (result ≡ 7) → (status ≡ 5) ⊎ (status ≡ 7) → (result ≡ 5) ⊎ (result ≡ 7)
+fault_kept status result (inl is) (inl five) = inl (grind (arith, is, five))
+fault_kept status result (inl is) (inr seven) = inr (grind (arith, is, seven))
+fault_kept status result (inr is) either = inr is
+
+-- no refusal has the status of a command that was done
+pub not_done : (refusal : Refusal) → status_of refusal ≢ 0
+not_done NoCommand = λ is. grind (arith, is)
+not_done TooLong = λ is. grind (arith, is)
+not_done (Read name) = λ is. grind (arith, is)
+not_done (Write name) = λ is. grind (arith, is)
+not_done Memory = λ is. grind (arith, is)
+not_done (Image offset) = λ is. grind (arith, is)
+not_done Unbuilt = λ is. grind (arith, is)

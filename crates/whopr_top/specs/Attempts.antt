@@ -1,0 +1,42 @@
+-- How a command went before it printed anything: its status, its text, and what became of the files.
+use Rattle.std.specs.Prelude.{◌≡◌, ◌≢◌, ℕ, ◌⊎◌, List, Option, None, IsTrue, IfSome, IsSomeAnd, codes, ◌++◌}
+use Rattle.std.specs.Option.{ForSome}
+use Rattle.outer_files.specs.Outside.{Contents, WhereTold, Rose, RoseBy}
+use Rattle.whopr_words.specs.Commands.{Spoken}
+use Rattle.whopr_top.specs.Reads.{reads_of, written_name, IsOverLimit, IsAbsent, IsReached}
+use Rattle.whopr_top.specs.Judgements.{line}
+use Rattle.whopr_top.specs.Outputs.{IsJudged, IsRefused, Done, CutShort, Refused, IsValid}
+use Rattle.whopr_top.specs.Answers.{Exactly, is_status, is_early, is_judged, lines_of}
+
+-- what does not ask for what the command comes to by what it read
+pub record Attempt (limit : ℕ) (command : Option Spoken) (old new : Option Contents) (status : ℕ) : Type 0 where
+  pub answers : IsTrue (is_status status)
+  pub words : Exactly 2 status (command ≡ None)
+  pub over : ForSome old (λ held. status ≢ 5 → Exactly 4 status (IsSomeAnd command (λ c. IsOverLimit limit held (reads_of c))))
+  pub absent : ForSome old (λ held. IsSomeAnd command (λ c. IsAbsent limit held (reads_of c)) → (status ≡ 5) ⊎ (status ≡ 7))
+  pub early : IsTrue (is_early status) → new ≡ old
+  pub memory : status ≡ 7 → new ≡ old
+
+-- the store's count of faults before and after
+pub record Counted (before now status : ℕ) : Type 0 where
+  pub read : status ≡ 5 → Rose before now
+  pub write : status ≡ 6 → Rose before now
+  pub counting : RoseBy (lines_of status) before now
+
+-- the lines of refusals that the files' bytes are not the cause of
+pub record Lined (limit : ℕ) (command : Option Spoken) (old : Option Contents) (status : ℕ) (text : List ℕ) : Type 0 where
+  pub words : status ≡ 2 → text ≡ line (codes "2 words")
+  pub over : status ≡ 4 → text ≡ line (codes "4 limit FileBytes 16777217 16777216")
+  pub read : status ≡ 5 → IsSomeAnd command (λ c. (name : List ℕ) × IfSome old (λ files. IsReached limit files (reads_of c) name) × (text ≡ line (codes "5 read " ++ name)))
+  pub write : status ≡ 6 → IsSomeAnd command (λ c. text ≡ line (codes "6 write " ++ written_name c))
+  pub memory : status ≡ 7 → text ≡ line (codes "7 memory")
+
+-- what the command comes to by what it read
+pub record Judged (limit : ℕ) (command : Option Spoken) (old new : Option Contents) (before now status : ℕ) (text : List ℕ) : Type 0 where
+  pub image : ForSome old (λ held. status ≢ 5 → Exactly 11 status (Refused 11 limit held command))
+  pub unbuilt : ForSome old (λ held. status ≢ 5 → Exactly 13 status (Refused 13 limit held command))
+  pub complete : ForSome old (λ held. IsValid limit held command → ¬ Rose before now → (status ≡ 0) ⊎ (status ≡ 7))
+  pub done : status ≡ 0 → WhereTold old new (Done limit command)
+  pub cut_short : status ≡ 6 → WhereTold old new (CutShort limit command)
+  pub done_line : status ≡ 0 → IfSome old (λ files. IsSomeAnd command (λ c. (written : List ℕ) × IsJudged limit c files written text))
+  pub refused_line : IsTrue (is_judged status) → IfSome old (λ files. IsSomeAnd command (λ c. IsRefused limit c files status text))

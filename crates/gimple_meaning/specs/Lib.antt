@@ -1,0 +1,6 @@
+pub mod Acts
+pub mod Systems
+pub mod Source
+pub mod Steps
+pub mod Run
+pub mod Laws

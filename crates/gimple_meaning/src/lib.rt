@@ -1,0 +1,13 @@
+//! What a program means: the definitions of statements, steps and runs that every later program is compared with, and an
+//! interpreter that computes them.
+//!
+//! In specs/, `Acts` says what one statement does to its frame, `Systems` what acts do to the stack of frames and what a step is,
+//! `Source` gives the statements of the source language and `Steps` those of versioned functions, `Run` has the run of at most n
+//! steps and what it shows, and `Laws` what holds of every run.
+#![tactic(auto)]
+
+mod laws;
+mod outcome;
+
+pub use laws::run_laws;
+pub use outcome::Outcome;

@@ -4,3 +4,5 @@ pub mod Source
 pub mod Steps
 pub mod Run
 pub mod Laws
+pub mod Held
+pub mod Moves

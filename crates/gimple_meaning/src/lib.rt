@@ -6,7 +6,11 @@
 //! steps and what it shows, and `Laws` what holds of every run.
 #![tactic(auto)]
 
+mod arrays;
+mod cells;
+mod frames;
 mod laws;
+mod moves;
 mod outcome;
 
 pub use laws::run_laws;

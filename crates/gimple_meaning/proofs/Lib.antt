@@ -1,3 +1,4 @@
 pub mod RunLaws
 pub mod WorkedRows
 pub mod Parts
+pub mod Places

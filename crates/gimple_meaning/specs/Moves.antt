@@ -42,6 +42,10 @@ loaded_at declared numbers array z =
 abbrev pub loaded_on : List Array → List (List ℤ) → ℕ → Option Value → Option Value
 loaded_on declared numbers array x = option_and_then (λ i. loaded_at declared numbers array i.num) x
 
+abbrev pub store_on : List Array → List (List ℤ) → ℕ → Option Value → Option Value → Move
+store_on declared numbers array x y =
+    on x (λ i. on y (λ v. on (element_type declared array) (λ element. on (element_at numbers array i.num) (λ before. move.Store array (unsigned_abs i.num) (stored element v.num)))))
+
 -- ---- plans
 
 abbrev pub move_of : Function → List Array → List (Option Value) → List (List ℤ) → Statement → Move
@@ -59,21 +63,22 @@ move_of f declared cells numbers (Convert to from) = on (converted_on f.variable
 move_of f declared cells numbers (Binary to op left right) =
     on (operation_on op (value_at cells left) (value_at cells right)) (λ v. move.Assign to v)
 move_of f declared cells numbers (Load to array index) = on (loaded_on declared numbers array (value_at cells index)) (λ v. move.Assign to v)
-move_of f declared cells numbers (StoreTo array index from) =
-    on (value_at cells index) (λ i. on (value_at cells from) (λ v. on (element_type declared array) (λ element. on (element_at numbers array i.num) (λ before.
-    move.Store array (unsigned_abs i.num) (stored element v.num)))))
+move_of f declared cells numbers (StoreTo array index from) = store_on declared numbers array (value_at cells index) (value_at cells from)
 move_of f declared cells numbers (CopyStruct to from) = move.CopyStruct to from
 move_of f declared cells numbers (Call to g args) = move.Fault
 move_of f declared cells numbers (Putchar o) = on (value_at cells o) (λ v. move.Print (low_byte v.num))
 move_of f declared cells numbers (Getchar to) = move.Read to
 move_of f declared cells numbers (Exit o) = on (value_at cells o) (λ v. move.End (low_byte v.num))
 
--- what a plan holds is in range
+-- what a plan holds is in range: a number that is stored, in that of the elements of its array
 abbrev pub MoveFits : List Array → Move → Type 0
 MoveFits declared (move.Assign to v) = IsValue v
 MoveFits declared (move.Leave value) = IfSome value IsValue
 MoveFits declared (move.Store array i z) = IfSome (element_type declared array) (λ element. IsElement element z)
 MoveFits declared _ = Unit {0}
+
+abbrev pub FitsAny : Move → Type 0
+FitsAny m = (declared : List Array) → MoveFits declared m
 
 -- the act of a plan
 abbrev pub act_of : Function → ℕ → Store → Move → Act

@@ -9,6 +9,7 @@
 mod arrays;
 mod cells;
 mod frames;
+mod layout;
 mod laws;
 mod moves;
 mod outcome;

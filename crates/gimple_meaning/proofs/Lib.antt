@@ -2,3 +2,4 @@ pub mod RunLaws
 pub mod WorkedRows
 pub mod Parts
 pub mod Places
+pub mod Handing

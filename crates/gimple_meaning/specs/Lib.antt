@@ -6,3 +6,5 @@ pub mod Run
 pub mod Laws
 pub mod Held
 pub mod Moves
+pub mod Stages
+pub mod StageView

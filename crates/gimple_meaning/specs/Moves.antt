@@ -1,6 +1,6 @@
 -- What the interpreter plans at a statement that is no call: the acts of `Source` as small data, and what they stand for.
-use Rattle.std.specs.Prelude.{ℕ, ◌+◌, ◌≡◌, ℤ, pos, List, [], ◌∷◌, Option, Some, None, IfSome, if◌then◌else◌, slice_get, slice_set, option_and_then, unsigned_abs}
-use Rattle.std.specs.Option.{option_map}
+use Rattle.std.specs.Prelude.{ℕ, ◌+◌, ◌≡◌, ℤ, pos, List, [], ◌∷◌, Option, Some, None, Bool, true, IfSome, if◌then◌else◌, slice_get, slice_set, option_and_then, unsigned_abs}
+use Rattle.std.specs.Option.{option_map, is_some}
 use Rattle.std.specs.Ordering.{int_eq}
 use Rattle.gimple_ir.specs.Values.{IsValue, unary_of, convert_of, value_of}
 use Rattle.gimple_ir.specs.Statements.{component_types}
@@ -11,6 +11,7 @@ use Rattle.gimple_ir.specs.declared.types.UnaryOp.{UnaryOp}
 use Rattle.gimple_ir.specs.declared.types.Value.{Value}
 use Rattle.gimple_ir.specs.declared.types.Array.{Array}
 use Rattle.gimple_ir.specs.declared.types.Arg.{Arg}
+use Rattle.gimple_ir.specs.declared.types.Arg.TheVariants.{One, Whole}
 use Rattle.gimple_ir.specs.declared.types.Variable.{Variable}
 use Rattle.gimple_ir.specs.declared.types.Function.{Function}
 use Rattle.gimple_ir.specs.declared.types.Statement.{Statement}
@@ -100,6 +101,11 @@ act_of f place s (move.End status) = Exits status
 abbrev pub IsCallOf : Statement → ℕ → List Arg → Type 0
 IsCallOf (Call to g args) h passed = (g ≡ h) × (args ≡ passed)
 IsCallOf _ h passed = ⊥
+
+-- an argument is set, or a whole struct
+abbrev pub passes : List (Option Value) → Arg → Bool
+passes cells (One o) = is_some (value_at cells o)
+passes cells (Whole v) = true
 
 abbrev pub IsPlain : Statement → Type 0
 IsPlain (Call to g args) = ⊥

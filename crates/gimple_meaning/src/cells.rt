@@ -1,8 +1,9 @@
 //! The components of a frame, each with its value where it is set.
-ghost use Rattle.std.specs.Prelude.{◌≡◌, All, IfSome, slice_set};
+ghost use Rattle.std.specs.Prelude.{◌≡◌, ◌+◌, ◌<◌, ◌^◌, All, IfSome, slice_set};
 ghost use Rattle.gimple_ir.specs.Values.{IsValue};
 ghost use Rattle.gimple_ir.specs.Programs.{IsOperand};
-ghost use Rattle.gimple_meaning.specs.Acts.{cell, value_at};
+ghost use Rattle.gimple_meaning.specs.Acts.{cell, copied, value_at};
+ghost use Rattle.gimple_meaning.specs.Source.{pairs_from};
 ghost use Rattle.gimple_meaning.specs.Held.{IsCell};
 
 use gimple_ir::{Operand, Value};
@@ -67,6 +68,18 @@ impl Cells {
     {
         if place < self.items.len() {
             self.items[place] = value;
+        }
+    }
+
+    /// Copies components in order: as many as `count`, to those from `to` on, from those from `from` on.
+    pub fn copy(&mut self, to: usize, from: usize, count: usize)
+        requires to { to + count < 2 ^ 64 }
+        requires from { from + count < 2 ^ 64 }
+        ensures { self.new ≡ copied self.old (pairs_from to from count) }
+    {
+        for place in 0..count {
+            let value = self.get(from + place);
+            self.set(to + place, value);
         }
     }
 }

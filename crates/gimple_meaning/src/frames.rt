@@ -2,6 +2,7 @@
 ghost use Rattle.std.specs.Prelude.{◌≡◌, [], ◌∷◌, ◌+◌, ◌<◌, ◌^◌, length, slice_set, OnOk, OnErr, IfErr, IfOk, IfSome, MatchOption};
 ghost use Rattle.gimple_meaning.specs.Acts.{copied};
 ghost use Rattle.gimple_meaning.specs.Held.{IsCell, HasNext};
+ghost use Rattle.gimple_meaning.specs.Source.{pairs_from};
 ghost use Rattle.gimple_meaning.specs.Systems.{fresh, moved};
 
 use crate::cells::Cells;
@@ -72,6 +73,16 @@ impl Frame {
     pub fn go_to(&mut self, place: u32)
         ensures { self.new ≡ moved self.old place self.old.components }
     {
+        self.place = place;
+    }
+
+    /// Goes to a place with components copied: as many as `count`, to those from `to` on, from those from `from` on.
+    pub fn copy(&mut self, place: u32, to: usize, from: usize, count: usize)
+        requires to { to + count < 2 ^ 64 }
+        requires from { from + count < 2 ^ 64 }
+        ensures { self.new ≡ moved self.old place (copied self.old.components (pairs_from to from count)) }
+    {
+        self.components.copy(to, from, count);
         self.place = place;
     }
 

@@ -13,6 +13,9 @@ mod layout;
 mod laws;
 mod moves;
 mod outcome;
+mod passing;
+mod phase;
+mod stage;
 
 pub use laws::run_laws;
 pub use outcome::Outcome;

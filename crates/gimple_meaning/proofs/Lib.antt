@@ -3,3 +3,4 @@ pub mod WorkedRows
 pub mod Parts
 pub mod Places
 pub mod Handing
+pub mod StageLaws

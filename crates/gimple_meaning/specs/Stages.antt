@@ -1,19 +1,20 @@
 -- A run of a source program with its newest frame apart: the interpreter's state between two steps.
-use Rattle.std.specs.Prelude.{ℕ, ℤ, List, ◌∷◌, Option, Some, None, map, if◌then◌else◌, slice_get, slice_set}
+use Rattle.std.specs.Prelude.{ℕ, ℤ, List, ◌∷◌, Option, Some, None, map, if◌then◌else◌, length, nat_lt, slice_get, slice_set}
 use Rattle.std.specs.List.{flat_map}
 use Rattle.gimple_ir.specs.Values.{value_of}
 use Rattle.gimple_ir.specs.declared.types.ScalarType.TheVariants.{Int}
 use Rattle.gimple_ir.specs.declared.types.Arg.{Arg}
 use Rattle.gimple_ir.specs.declared.types.Function.{Function}
 use Rattle.gimple_ir.specs.declared.types.Program.{Program}
+use Rattle.gimple_ir.specs.declared.types.Statement.{Statement}
 use Rattle.gimple_ir.specs.declared.types.Value.{Value}
 use Rattle.gimple_meaning.specs.declared.moves.Move.{Move}
 use Rattle.gimple_meaning.specs.declared.phase.Phase.{Phase}
 use Rattle.gimple_meaning.specs.declared.phase.Phase.TheVariants as phase
 use Rattle.gimple_meaning.specs.Acts.{Act, Fault, Calls, value_at, read_byte, unread}
 use Rattle.gimple_meaning.specs.Moves.{act_of}
-use Rattle.gimple_meaning.specs.Source.{source_of, can_pass, operands_of}
-use Rattle.gimple_meaning.specs.Systems.{Frame, Machine, State, moved, Running, Ended, Undefined, applied, left, store_of, step}
+use Rattle.gimple_meaning.specs.Source.{source_of, can_pass, operands_of, effect}
+use Rattle.gimple_meaning.specs.Systems.{Frame, Machine, State, most_frames, moved, Running, Ended, Undefined, applied, left, store_of, step}
 
 pub record Stage : Type 0 where
   pub program : Program
@@ -57,3 +58,14 @@ abbrev pub read_from : Stage → ℕ → Option ℕ → Stage
 read_from s place None = record s { frame = moved s.frame place s.frame.components; input = unread s.input }
 read_from s place (Some to) =
     record s { frame = moved s.frame place (slice_set s.frame.components to (Some (value_of Int (read_byte s.input)))); input = unread s.input }
+
+-- the components of the called frame, or None where the call is undefined
+abbrev pub opened_from : Stage → Function → ℕ → List Arg → Option (List (Option Value))
+opened_from s f g args =
+    if can_pass s.frame.components args
+    then (if nat_lt (length (s.frame ∷ s.rest)) most_frames then (source_of s.program).enters g (map (value_at s.frame.components) (flat_map (operands_of f.variables) args)) else None)
+    else None
+
+-- what the statement does at which the newest frame stands
+abbrev pub effect_from : Stage → Function → Statement → State
+effect_from s f statement = acted s (effect s.program.arrays f s.frame.place (store_of (machine_of s) s.frame) statement)

@@ -1,22 +1,28 @@
 //! The state of a run between two steps, and how each plan changes it.
-ghost use Rattle.std.specs.Prelude.{◌≡◌, ◌+◌, ◌∷◌, ◌++◌, [], ◌<◌, ◌^◌, ℕ, pos, negsuc, Some, IfOk, IfSome, OnOk, OnErr, slice_get, slice_set};
+ghost use Rattle.std.specs.Prelude.{◌≡◌, ◌+◌, ◌∷◌, ◌++◌, [], ◌<◌, ◌^◌, ℕ, pos, negsuc, All, Some, IfOk, IfSome, OnOk, OnErr, slice_get, slice_set};
 ghost use Rattle.std.specs.Option.{option_copied, option_map_or};
 ghost use Rattle.gimple_ir.specs.Values.{IsValue, value_of};
-ghost use Rattle.gimple_ir.specs.Programs.{IsElement};
+ghost use Rattle.gimple_ir.specs.Programs.{HasValues, IsArgument, IsElement};
 ghost use Rattle.gimple_meaning.specs.Acts.{copied, element_type, read_byte, unread, with_element};
 ghost use Rattle.gimple_meaning.specs.Held.{IsCell, HasNext};
+ghost use Rattle.gimple_meaning.specs.Moves.{move_of, MoveFits, IsPlain};
 ghost use Rattle.gimple_meaning.specs.Source.{pairs_from, place_of, source_of, struct_pairs, target_at, target_of};
-ghost use Rattle.gimple_meaning.specs.Stages.{machine_of, state_of, acted, planned_from, called_from, read_from, stepped, function_at};
+ghost use Rattle.gimple_meaning.specs.Stages.{machine_of, state_of, acted, planned_from, called_from, effect_from, opened_from, read_from, stepped, function_at};
 ghost use Rattle.gimple_meaning.specs.Systems.{moved, left, resumed, status};
 
 use crate::arrays::Arrays;
+use crate::cells::Cells;
 use crate::frames::{Frame, Waiting};
 use crate::layout::Layout;
-use crate::moves::low_byte;
+use crate::moves::{Move, call_of, low_byte, planned};
+use crate::passing::{can_pass, opened, passed};
 use crate::phase::Phase;
 use gimple_ir::{Args, Function, NoMemory, Program, ScalarType, Statement, Value};
 use std::marker::Model;
 use std::mem::replace;
+
+/// As many calls are active at most, the first frame included.
+const MOST_FRAMES: usize = 4096;
 
 /// A run with its newest frame apart from those that wait; `read` bytes of the input have been read.
 #[derive(Drop)]
@@ -236,6 +242,146 @@ impl<'a> Stage<'a> {
                 self.frame = caller;
                 Err(NoMemory)
             }
+        }
+    }
+
+    fn opened(
+        &self,
+        function: &Function,
+        callee: u32,
+        args: &Args,
+    ) -> Result<Option<Cells>, NoMemory>
+        requires here { function_at self.now ≡ Some function.now }
+        requires args { All IsArgument args.now }
+        ensures { IfOk result (λ cells. cells ≡ opened_from self.now function.now callee args.now) }
+    {
+        let cells = self.frame.components();
+        if !can_pass(cells, args) {
+            return Ok(None);
+        }
+        if self.waiting.len() >= MOST_FRAMES - 1 {
+            return Ok(None);
+        }
+        let Some(callee) = self.layouts.get(callee as usize) else {
+            return Ok(None);
+        };
+        let Some(layout) = self.layout() else {
+            return Err(NoMemory);
+        };
+        let values = passed(*self.output.allocator(), layout, cells, args)?;
+        Ok(Some(opened(callee, values)?))
+    }
+
+    fn call(
+        &mut self,
+        function: &Function,
+        callee: u32,
+        args: &Args,
+    ) -> Result<Phase, NoMemory>
+        requires here { function_at self.old ≡ Some function.now }
+        requires args { All IsArgument args.now }
+        ensures program { self.new.program ≡ self.old.program }
+        ensures ok { IfOk result (λ phase. state_of self.new phase ≡ called_from self.old function.now callee args.now) }
+        ensures err { OnErr result (self.new ≡ self.old) }
+    {
+        let _next = self.frame.next()?;
+        match self.opened(function, callee, args)? {
+            Some(cells) => {
+                self.enter(Frame::new(callee, cells))?;
+                Ok(Phase::Running)
+            }
+            None => Ok(Phase::Undefined),
+        }
+    }
+
+    fn plan(&self, function: &Function, statement: &Statement) -> Move
+        requires here { function_at self.now ≡ Some function.now }
+        requires values { HasValues statement.now }
+        ensures value { result ≡ move_of function.now self.now.program.arrays self.now.frame.components self.now.arrays statement.now }
+        ensures fits { MoveFits self.now.program.arrays result }
+    {
+        match self.layout() {
+            Some(layout) => planned(layout, &self.arrays, self.frame.components(), statement),
+            None => Move::Fault,
+        }
+    }
+
+    fn apply(&mut self, function: &Function, planned: Move) -> Result<Phase, NoMemory>
+        requires here { function_at self.old ≡ Some function.now }
+        requires fits { MoveFits self.old.program.arrays planned }
+        ensures program { self.new.program ≡ self.old.program }
+        ensures ok { IfOk result (λ phase. state_of self.new phase ≡ planned_from self.old function.now planned) }
+        ensures err { OnErr result (self.new ≡ self.old) }
+    {
+        let next = self.frame.next()?;
+        match planned {
+            Move::Fault => Ok(Phase::Undefined),
+            Move::Next => {
+                self.go_to(next);
+                Ok(Phase::Running)
+            }
+            Move::Jump(label) => {
+                let place = self.label_place(function, label)?;
+                self.go_to(place);
+                Ok(Phase::Running)
+            }
+            Move::Assign(to, value) => {
+                self.assign(next, to, value);
+                Ok(Phase::Running)
+            }
+            Move::Store(array, index, num) => {
+                self.store(next, array, index, num);
+                Ok(Phase::Running)
+            }
+            Move::CopyStruct(to, from) => {
+                self.copy_struct(function, next, to, from)?;
+                Ok(Phase::Running)
+            }
+            Move::Print(byte) => {
+                self.print(next, byte)?;
+                Ok(Phase::Running)
+            }
+            Move::Read(to) => {
+                self.read(next, to);
+                Ok(Phase::Running)
+            }
+            Move::Leave(value) => Ok(self.leave(value)),
+            Move::End(status) => Ok(Phase::Ended(status)),
+        }
+    }
+
+    fn act(&mut self, function: &Function, statement: &Statement) -> Result<Phase, NoMemory>
+        requires here { function_at self.old ≡ Some function.now }
+        requires plain { IsPlain statement.now }
+        requires values { HasValues statement.now }
+        ensures program { self.new.program ≡ self.old.program }
+        ensures ok { IfOk result (λ phase. state_of self.new phase ≡ effect_from self.old function.now statement.now) }
+        ensures err { OnErr result (self.new ≡ self.old) }
+    {
+        let planned = self.plan(function, statement);
+        self.apply(function, planned)
+    }
+
+    /// One step, of a run that goes on: does the newest frame's statement, and says how the run stands then.
+    pub fn advance(&mut self) -> Result<Phase, NoMemory>
+        ensures program { self.new.program ≡ self.old.program }
+        ensures ok { IfOk result (λ phase. state_of self.new phase ≡ stepped self.old) }
+        ensures err { OnErr result (self.new ≡ self.old) }
+    {
+        let program = self.program;
+        let Some(function) = program
+            .functions
+            .as_slice()
+            .get(self.frame.function() as usize)
+        else {
+            return Ok(Phase::Undefined);
+        };
+        let Some(statement) = function.body.as_slice().get(self.frame.place() as usize) else {
+            return Ok(Phase::Undefined);
+        };
+        match call_of(statement) {
+            Some((callee, args)) => self.call(function, callee, args),
+            None => self.act(function, statement),
         }
     }
 }

@@ -90,6 +90,12 @@ fn target_of(statement: &Statement) -> Option<u32>
     }
 }
 
+fn statement_at(function: &Function, place: u32) -> Option<&Statement>
+    ensures { option_copied result ≡ slice_get function.now.body place }
+{
+    function.body.as_slice().get(place as usize)
+}
+
 fn target_at(program: &Program, frame: &Frame) -> Option<u32>
     ensures { result ≡ target_at (slice_get program.now.functions frame.now.function) frame.now.place }
 {
@@ -160,6 +166,16 @@ impl<'a> Stage<'a> {
             Some(to) => self.assign(place, to, value),
             None => self.go_to(place),
         }
+    }
+
+    fn function(&self) -> Option<&'a Function>
+        ensures { option_copied result ≡ function_at self.now }
+    {
+        let program = self.program;
+        program
+            .functions
+            .as_slice()
+            .get(self.frame.function() as usize)
     }
 
     fn layout(&self) -> Option<&Layout<'a>>
@@ -368,15 +384,10 @@ impl<'a> Stage<'a> {
         ensures ok { IfOk result (λ phase. state_of self.new phase ≡ stepped self.old) }
         ensures err { OnErr result (self.new ≡ self.old) }
     {
-        let program = self.program;
-        let Some(function) = program
-            .functions
-            .as_slice()
-            .get(self.frame.function() as usize)
-        else {
+        let Some(function) = self.function() else {
             return Ok(Phase::Undefined);
         };
-        let Some(statement) = function.body.as_slice().get(self.frame.place() as usize) else {
+        let Some(statement) = statement_at(function, self.frame.place()) else {
             return Ok(Phase::Undefined);
         };
         match call_of(statement) {

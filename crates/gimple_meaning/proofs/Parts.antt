@@ -1,17 +1,18 @@
 -- Components and arrays that are read and written.
-use Rattle.std.proofs.Common.{◌≡◌, ◌<◌, ◌≤◌, ◌+◌, ◌^◌, ℕ, zero, suc, ℤ, pos, negsuc, ◌≤ℤ◌, refl, ap, sym, ◌∙◌, List, [], ◌∷◌, Option, Some, None, length, All, IfSome, slice_get, slice_set, slice_index_or, option_and_then, arith}
+use Rattle.std.proofs.Common.{◌≡◌, ◌<◌, ◌≤◌, ◌+◌, ◌^◌, ℕ, zero, suc, ℤ, pos, negsuc, ◌≤ℤ◌, refl, ap, sym, ◌∙◌, List, [], ◌∷◌, Option, Some, None, length, All, IfSome, slice_get, slice_set, slice_index_or, option_and_then, replicate, ◌-◌, arith}
 use Rattle.std.proofs.lemmas.Int.{ints}
 use Rattle.std.specs.Option.{option_map}
-use Rattle.std.proofs.lemmas.List.Elements.{All-get_or, All-head, All-tail, All-set}
+use Rattle.std.proofs.lemmas.List.Elements.{All-append, All-head, All-replicate, All-set, All-tail}
 use Rattle.gimple_ir.specs.Values.{IsValue, InRange}
-use Rattle.gimple_ir.specs.Programs.{IsElement}
-use Rattle.gimple_ir.specs.declared.types.ScalarType.TheVariants.{Int}
+use Rattle.gimple_ir.specs.Programs.{IsElement, IsProgramArray}
+use Rattle.gimple_ir.specs.declared.types.ScalarType.TheVariants.{Int, UnsignedInt, LongInt, LongUnsignedInt}
 use Rattle.gimple_ir.specs.declared.types.ElementType.{ElementType}
 use Rattle.gimple_ir.specs.declared.types.ElementType.TheVariants as element
 use Rattle.gimple_ir.specs.declared.types.Array.{Array}
 use Rattle.gimple_ir.specs.declared.types.Value.{Value}
 use Rattle.gimple_meaning.specs.Acts.{cell, element_type, element_at, loaded, with_element}
 use Rattle.gimple_meaning.specs.Moves.{loaded_at}
+use Rattle.gimple_meaning.specs.Systems.{first_arrays}
 use Rattle.gimple_meaning.specs.Held.{IsCell, IsNumbersOf, AreElements}
 
 pub cell-get_or : (xs : List (Option Value)) (i : ℕ) → slice_index_or xs i None ≡ cell xs i
@@ -65,3 +66,22 @@ loaded-holds (d ∷ ds) (x ∷ xs) zero (pos i) h = element-read d.element x i h
 loaded-holds (d ∷ ds) (x ∷ xs) zero (negsuc i) h = tt
 loaded-holds (d ∷ ds) (x ∷ xs) (suc a) (pos i) h = loaded-holds ds xs a (pos i) h.1
 loaded-holds (d ∷ ds) (x ∷ xs) (suc a) (negsuc i) h = loaded-holds ds xs a (negsuc i) h.1
+
+-- ---- first values
+
+zero-element : (e : ElementType) → IsElement e (pos 0)
+zero-element element.UnsignedChar = (omega (arith, ints), omega (arith, ints))
+zero-element (element.Scalar Int) = record { above = omega (arith, ints); below = omega (arith, ints) }
+zero-element (element.Scalar UnsignedInt) = record { above = omega (arith, ints); below = omega (arith, ints) }
+zero-element (element.Scalar LongInt) = record { above = omega (arith, ints); below = omega (arith, ints) }
+zero-element (element.Scalar LongUnsignedInt) = record { above = omega (arith, ints); below = omega (arith, ints) }
+
+pub elements-first : (declared : List Array) → All IsProgramArray declared → AreElements declared (first_arrays declared)
+elements-first [] h = tt
+elements-first (a ∷ more) h =
+    let one = All-head IsProgramArray a more h in
+    (
+        All-append (IsElement a.element) a.initial (replicate (a.length - length a.initial) (pos 0)) one.initial
+        (All-replicate (IsElement a.element) (a.length - length a.initial) (pos 0) (zero-element a.element)),
+        elements-first more (All-tail IsProgramArray a more h)
+    )

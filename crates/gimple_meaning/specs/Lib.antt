@@ -8,3 +8,4 @@ pub mod Held
 pub mod Moves
 pub mod Stages
 pub mod StageView
+pub mod InterpView

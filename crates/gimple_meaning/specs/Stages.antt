@@ -69,3 +69,8 @@ opened_from s f g args =
 -- what the statement does at which the newest frame stands
 abbrev pub effect_from : Stage → Function → Statement → State
 effect_from s f statement = acted s (effect s.program.arrays f s.frame.place (store_of (machine_of s) s.frame) statement)
+
+-- a program, and how its run stands
+pub record Run : Type 0 where
+  pub program : Program
+  pub state : State

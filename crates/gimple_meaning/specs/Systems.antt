@@ -106,8 +106,11 @@ step system (Undefined m function place) = Undefined m function place
 -- ---- the first state
 
 -- initial values that are missing are 0
+abbrev pub first_numbers : Array → List ℤ
+first_numbers a = a.initial ++ replicate (a.length - length a.initial) (pos 0)
+
 abbrev pub first_arrays : List Array → List (List ℤ)
-first_arrays arrays = map (λ a. a.initial ++ replicate (a.length - length a.initial) (pos 0)) arrays
+first_arrays arrays = map first_numbers arrays
 
 -- one frame, of the function `main`, at its first statement
 abbrev pub start_in : System → List Array → ℕ → List ℕ → State

@@ -6,7 +6,7 @@ ghost use Rattle.gimple_ir.specs.Programs.{IsElement, IsProgramArray};
 ghost use Rattle.gimple_ir.specs.Statements.{read_type};
 ghost use Rattle.gimple_meaning.specs.Acts.{element_type, element_at, with_element};
 ghost use Rattle.gimple_meaning.specs.Moves.{loaded_at};
-ghost use Rattle.gimple_meaning.specs.Systems.{first_arrays};
+ghost use Rattle.gimple_meaning.specs.Systems.{first_arrays, first_numbers};
 
 use gimple_ir::{Array, ElementType, List, NoMemory, ScalarType, Value};
 use std::alloc::Global;
@@ -27,6 +27,18 @@ impl Model for Numbers {
 }
 
 impl Numbers {
+    fn start(alloc: Global, array: &Array) -> Result<Numbers, NoMemory>
+        ensures { IfOk result (λ numbers. numbers ≡ first_numbers array.now) }
+    {
+        let mut items = Vec::from_slice(alloc, array.initial.as_slice())?;
+        let length = array.length as usize;
+        if items.len() >= length {
+            return Ok(Numbers { items });
+        }
+        items.resize(length, 0)?;
+        Ok(Numbers { items })
+    }
+
     fn get(&self, place: usize) -> Option<i128>
         ensures { result ≡ slice_get self.now place }
     {
@@ -68,7 +80,27 @@ fn read_as(element: ElementType) -> ScalarType
     }
 }
 
+fn all_numbers(alloc: Global, declared: &[Array]) -> Result<Vec<Numbers>, NoMemory>
+    ensures { IfOk result (λ numbers. numbers.items ≡ first_arrays declared.now) }
+{
+    let mut numbers = Vec::new(alloc);
+    for array in declared {
+        numbers.push(Numbers::start(alloc, array)?)?;
+    }
+    Ok(numbers)
+}
+
 impl<'a> Arrays<'a> {
+    /// The arrays with their initial values.
+    pub fn start(alloc: Global, declared: &'a List<Array>) -> Result<Arrays<'a>, NoMemory>
+        requires { All IsProgramArray declared.now }
+        ensures declared { IfOk result (λ arrays. arrays.declared ≡ declared.now) }
+        ensures numbers { IfOk result (λ arrays. arrays.numbers ≡ first_arrays declared.now) }
+    {
+        let numbers = all_numbers(alloc, declared.as_slice())?;
+        Ok(Arrays { declared, numbers })
+    }
+
     /// The type of an array's elements.
     pub fn element(&self, array: u32) -> Option<ElementType>
         ensures { result ≡ element_type self.now.declared array }

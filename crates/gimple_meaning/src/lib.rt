@@ -10,6 +10,7 @@ mod arrays;
 mod cells;
 mod frames;
 mod layout;
+mod interp;
 mod laws;
 mod moves;
 mod outcome;
@@ -17,5 +18,7 @@ mod passing;
 mod phase;
 mod stage;
 
+pub use gimple_ir::NoMemory;
+pub use interp::Interp;
 pub use laws::run_laws;
 pub use outcome::Outcome;

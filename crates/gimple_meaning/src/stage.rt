@@ -1,14 +1,14 @@
 //! The state of a run between two steps, and how each plan changes it.
-ghost use Rattle.std.specs.Prelude.{◌≡◌, ◌+◌, ◌∷◌, ◌++◌, [], ◌<◌, ◌^◌, ℕ, pos, negsuc, All, Some, IfOk, IfSome, OnOk, OnErr, slice_get, slice_set};
+ghost use Rattle.std.specs.Prelude.{◌≡◌, ◌+◌, ◌∷◌, ◌++◌, [], ◌<◌, ◌^◌, ℕ, pos, negsuc, All, Some, IfOk, IfSome, OnOk, OnErr, slice_get, slice_set, unwrap_or};
 ghost use Rattle.std.specs.Option.{option_copied, option_map_or};
 ghost use Rattle.gimple_ir.specs.Values.{IsValue, value_of};
-ghost use Rattle.gimple_ir.specs.Programs.{HasValues, IsArgument, IsElement};
+ghost use Rattle.gimple_ir.specs.Programs.{HasValues, IsArgument, IsElement, IsProgram};
 ghost use Rattle.gimple_meaning.specs.Acts.{copied, element_type, read_byte, unread, with_element};
 ghost use Rattle.gimple_meaning.specs.Held.{IsCell, HasNext};
 ghost use Rattle.gimple_meaning.specs.Moves.{move_of, MoveFits, IsPlain};
-ghost use Rattle.gimple_meaning.specs.Source.{pairs_from, place_of, source_of, struct_pairs, target_at, target_of};
+ghost use Rattle.gimple_meaning.specs.Source.{begun, pairs_from, place_of, source_of, start, struct_pairs, target_at, target_of};
 ghost use Rattle.gimple_meaning.specs.Stages.{machine_of, state_of, acted, planned_from, called_from, effect_from, opened_from, read_from, stepped, function_at};
-ghost use Rattle.gimple_meaning.specs.Systems.{moved, left, resumed, status};
+ghost use Rattle.gimple_meaning.specs.Systems.{Running, moved, left, resumed, status};
 
 use crate::arrays::Arrays;
 use crate::cells::Cells;
@@ -18,6 +18,7 @@ use crate::moves::{Move, call_of, low_byte, planned};
 use crate::passing::{can_pass, opened, passed};
 use crate::phase::Phase;
 use gimple_ir::{Args, Function, NoMemory, Program, ScalarType, Statement, Value};
+use std::alloc::Global;
 use std::marker::Model;
 use std::mem::replace;
 
@@ -107,7 +108,72 @@ fn target_at(program: &Program, frame: &Frame) -> Option<u32>
     target_of(statement)
 }
 
+fn layouts<'a>(alloc: Global, functions: &'a [Function]) -> Result<Vec<Layout<'a>>, NoMemory>
+    ensures { IfOk result (λ layouts. layouts.items ≡ functions.now) }
+{
+    let mut layouts = Vec::new(alloc);
+    for function in functions {
+        layouts.push(Layout::new(alloc, function)?)?;
+    }
+    Ok(layouts)
+}
+
+fn first_components(alloc: Global, main: Option<&Layout>) -> Result<Cells, NoMemory>
+    ensures { IfOk result (λ cells. cells ≡ unwrap_or (begun (option_copied main.entry) []) []) }
+{
+    match main {
+        Some(layout) => opened(layout, Vec::new(alloc)),
+        None => Ok(Cells::from_vec(Vec::new(alloc))),
+    }
+}
+
 impl<'a> Stage<'a> {
+    /// A run before its first step.
+    pub fn start(
+        alloc: Global,
+        program: &'a Program,
+        input: Vec<u8>,
+    ) -> Result<Stage<'a>, NoMemory>
+        requires { IsProgram program.now }
+        ensures program { IfOk result (λ stage. stage.program ≡ program.now) }
+        ensures state { IfOk result (λ stage. Running (machine_of stage) ≡ start program.now input.items) }
+    {
+        let arrays = Arrays::start(alloc, &program.arrays)?;
+        let layouts = layouts(alloc, program.functions.as_slice())?;
+        let components = first_components(alloc, layouts.get(program.main as usize))?;
+        Ok(Stage {
+            program,
+            layouts,
+            arrays,
+            frame: Frame::new(program.main, components),
+            waiting: Waiting::new(alloc),
+            input,
+            read: 0,
+            output: Vec::new(alloc),
+        })
+    }
+
+    /// The number of the newest frame's function.
+    pub fn function_number(&self) -> u32
+        ensures { result ≡ self.now.frame.function }
+    {
+        self.frame.function()
+    }
+
+    /// The place of the newest frame's next statement.
+    pub fn place(&self) -> u32
+        ensures { result ≡ self.now.frame.place }
+    {
+        self.frame.place()
+    }
+
+    /// What has been written.
+    pub fn output(&self) -> &[u8]
+        ensures { result.now ≡ self.now.output }
+    {
+        self.output.as_slice()
+    }
+
     fn go_to(&mut self, place: u32)
         ensures { self.new ≡ record self.old { frame = moved self.old.frame place self.old.frame.components } }
     {

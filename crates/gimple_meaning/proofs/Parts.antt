@@ -4,7 +4,7 @@ use Rattle.std.proofs.lemmas.Int.{ints}
 use Rattle.std.specs.Option.{option_map}
 use Rattle.std.proofs.lemmas.List.Elements.{All-append, All-head, All-replicate, All-set, All-tail}
 use Rattle.gimple_ir.specs.Values.{IsValue, InRange}
-use Rattle.gimple_ir.specs.Programs.{IsElement, IsProgramArray}
+use Rattle.gimple_ir.specs.Programs.{IsElement}
 use Rattle.gimple_ir.specs.declared.types.ScalarType.TheVariants.{Int, UnsignedInt, LongInt, LongUnsignedInt}
 use Rattle.gimple_ir.specs.declared.types.ElementType.{ElementType}
 use Rattle.gimple_ir.specs.declared.types.ElementType.TheVariants as element
@@ -13,7 +13,7 @@ use Rattle.gimple_ir.specs.declared.types.Value.{Value}
 use Rattle.gimple_meaning.specs.Acts.{cell, element_type, element_at, loaded, with_element}
 use Rattle.gimple_meaning.specs.Moves.{loaded_at}
 use Rattle.gimple_meaning.specs.Systems.{first_arrays}
-use Rattle.gimple_meaning.specs.Held.{IsCell, IsNumbersOf, AreElements}
+use Rattle.gimple_meaning.specs.Held.{IsCell, IsNumbersOf, AreElements, HasInitial}
 
 pub cell-get_or : (xs : List (Option Value)) (i : ℕ) → slice_index_or xs i None ≡ cell xs i
 cell-get_or [] i = refl
@@ -76,12 +76,12 @@ zero-element (element.Scalar UnsignedInt) = record { above = omega (arith, ints)
 zero-element (element.Scalar LongInt) = record { above = omega (arith, ints); below = omega (arith, ints) }
 zero-element (element.Scalar LongUnsignedInt) = record { above = omega (arith, ints); below = omega (arith, ints) }
 
-pub elements-first : (declared : List Array) → All IsProgramArray declared → AreElements declared (first_arrays declared)
+pub elements-first : (declared : List Array) → All HasInitial declared → AreElements declared (first_arrays declared)
 elements-first [] h = tt
 elements-first (a ∷ more) h =
-    let one = All-head IsProgramArray a more h in
+    let one = All-head HasInitial a more h in
     (
-        All-append (IsElement a.element) a.initial (replicate (a.length - length a.initial) (pos 0)) one.initial
+        All-append (IsElement a.element) a.initial (replicate (a.length - length a.initial) (pos 0)) one
         (All-replicate (IsElement a.element) (a.length - length a.initial) (pos 0) (zero-element a.element)),
-        elements-first more (All-tail IsProgramArray a more h)
+        elements-first more (All-tail HasInitial a more h)
     )

@@ -102,17 +102,3 @@ module _ (f : Function) (place : ℕ) (s : Store) where
       → effect declared f place s statement ≡ call_act f s.cells g args
   call-is declared (Call to h passed) g args is = ap (λ n. call_act f s.cells n passed) is.0 ∙ ap (call_act f s.cells g) is.1
   call-is declared _ g args is = absurd is
-
--- ---- literals of a well formed program
-
-pub call-arguments : (statement : Statement) (g : ℕ) (args : List Arg) → IsCallOf statement g args → HasValues statement → All IsArgument args
-call-arguments (Call to h passed) g args is values = rw (sym is.1) values
-call-arguments _ g args is values = absurd is
-
-found : {X : Type 0} (P : X → Type 0) (xs : List X) (i : ℕ) (x : X) → All P xs → slice_get xs i ≡ Some x → P x
-found P [] i x h e = absurd (cc)
-found P (y ∷ ys) zero x h e = let same : y ≡ x = cc in rw (sym same) (All-head P y ys h)
-found P (y ∷ ys) (suc i) x h e = found P ys i x (All-tail P y ys h) e
-
-pub literals : (p : Program) (g i : ℕ) (f : Function) (s : Statement) → IsProgram p → slice_get p.functions g ≡ Some f → slice_get f.body i ≡ Some s → HasValues s
-literals p g i f s is here at = found HasValues f.body i s (found (IsProgramFunction p) p.functions g f is.functions here).values at

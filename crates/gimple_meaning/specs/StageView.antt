@@ -1,6 +1,6 @@
 -- What the interpreter's parts stand for.
-use Rattle.std.specs.Prelude.{◌≡◌, ◌≤◌, length, drop}
-use Rattle.gimple_ir.specs.Programs.{IsProgram}
+use Rattle.std.specs.Prelude.{◌≡◌, ◌≤◌, All, length, drop}
+use Rattle.gimple_meaning.specs.Held.{HasLiterals}
 use Rattle.gimple_meaning.specs.Stages.{Stage}
 use Rattle.gimple_meaning.specs.declared.stage.Stage.TheInside.{Inside}
 
@@ -15,7 +15,7 @@ stage_of i = record {
 }
 
 pub record IsSound (i : Inside) : Type 0 where
-  pub program : IsProgram i.program.now
+  pub literals : All HasLiterals i.program.now.functions
   pub layouts : i.layouts.items ≡ i.program.now.functions
   pub declared : i.arrays.declared ≡ i.program.now.arrays
   pub read : i.read ≤ length i.input.items

@@ -2,9 +2,10 @@
 ghost use Rattle.std.specs.Prelude.{◌≡◌, ℤ, ◌<◌, ◌^◌, ◌-◌, ◌≤ℤ◌, pos, All, IfOk, IfSome, slice_get, slice_set, option_and_then, unsigned_abs};
 ghost use Rattle.std.specs.Option.{option_map};
 ghost use Rattle.gimple_ir.specs.Values.{IsValue};
-ghost use Rattle.gimple_ir.specs.Programs.{IsElement, IsProgramArray};
+ghost use Rattle.gimple_ir.specs.Programs.{IsElement};
 ghost use Rattle.gimple_ir.specs.Statements.{read_type};
 ghost use Rattle.gimple_meaning.specs.Acts.{element_type, element_at, with_element};
+ghost use Rattle.gimple_meaning.specs.Held.{HasInitial};
 ghost use Rattle.gimple_meaning.specs.Moves.{loaded_at};
 ghost use Rattle.gimple_meaning.specs.Systems.{first_arrays, first_numbers};
 
@@ -93,7 +94,7 @@ fn all_numbers(alloc: Global, declared: &[Array]) -> Result<Vec<Numbers>, NoMemo
 impl<'a> Arrays<'a> {
     /// The arrays with their initial values.
     pub fn start(alloc: Global, declared: &'a List<Array>) -> Result<Arrays<'a>, NoMemory>
-        requires { All IsProgramArray declared.now }
+        requires { All HasInitial declared.now }
         ensures declared { IfOk result (λ arrays. arrays.declared ≡ declared.now) }
         ensures numbers { IfOk result (λ arrays. arrays.numbers ≡ first_arrays declared.now) }
     {

@@ -1,6 +1,6 @@
 //! The interpreter: a run of a program, one state changed in place.
-ghost use Rattle.std.specs.Prelude.{◌≡◌, ◌<◌, ◌↔◌, ℕ, IsTrue, IfOk, OnOk, OnErr};
-ghost use Rattle.gimple_ir.specs.Programs.{IsProgram};
+ghost use Rattle.std.specs.Prelude.{◌≡◌, ◌<◌, ◌↔◌, ℕ, All, IsTrue, IfOk, OnOk, OnErr};
+ghost use Rattle.gimple_meaning.specs.Held.{HasInitial, HasLiterals};
 ghost use Rattle.gimple_meaning.specs.Laws.{IsOver};
 ghost use Rattle.gimple_meaning.specs.Run.{outcome_of, output_of, run};
 ghost use Rattle.gimple_meaning.specs.Source.{source_of, start};
@@ -31,13 +31,15 @@ impl<'a> Model for Interp<'a> {
 }
 
 impl<'a> Interp<'a> {
-    /// The run before its first step. Components and array elements take memory for as long as the run lives.
+    /// The run of a program before its first step. Initial values, literals and case values are in their types' ranges, as
+    /// those of a well formed program are; nothing else is asked of it.
     pub fn start(
         alloc: Global,
         program: &'a Program,
         input: Vec<u8>,
     ) -> Result<Interp<'a>, NoMemory>
-        requires { IsProgram program.now }
+        requires arrays { All HasInitial program.now.arrays }
+        requires functions { All HasLiterals program.now.functions }
         ensures program { IfOk result (λ interp. interp.program ≡ program.now) }
         ensures state { IfOk result (λ interp. interp.state ≡ start program.now input.items) }
     {

@@ -2,9 +2,9 @@
 ghost use Rattle.std.specs.Prelude.{◌≡◌, ◌+◌, ◌∷◌, ◌++◌, [], ◌<◌, ◌^◌, ℕ, pos, negsuc, All, Some, IfOk, IfSome, OnOk, OnErr, slice_get, slice_set, unwrap_or};
 ghost use Rattle.std.specs.Option.{option_copied, option_map_or};
 ghost use Rattle.gimple_ir.specs.Values.{IsValue, value_of};
-ghost use Rattle.gimple_ir.specs.Programs.{HasValues, IsArgument, IsElement, IsProgram};
+ghost use Rattle.gimple_ir.specs.Programs.{HasValues, IsArgument, IsElement};
 ghost use Rattle.gimple_meaning.specs.Acts.{copied, element_type, read_byte, unread, with_element};
-ghost use Rattle.gimple_meaning.specs.Held.{IsCell, HasNext};
+ghost use Rattle.gimple_meaning.specs.Held.{IsCell, HasInitial, HasLiterals, HasNext};
 ghost use Rattle.gimple_meaning.specs.Moves.{move_of, MoveFits, IsPlain};
 ghost use Rattle.gimple_meaning.specs.Source.{begun, pairs_from, place_of, source_of, start, struct_pairs, target_at, target_of};
 ghost use Rattle.gimple_meaning.specs.Stages.{machine_of, state_of, acted, planned_from, called_from, effect_from, opened_from, read_from, stepped, function_at};
@@ -134,7 +134,8 @@ impl<'a> Stage<'a> {
         program: &'a Program,
         input: Vec<u8>,
     ) -> Result<Stage<'a>, NoMemory>
-        requires { IsProgram program.now }
+        requires arrays { All HasInitial program.now.arrays }
+        requires functions { All HasLiterals program.now.functions }
         ensures program { IfOk result (λ stage. stage.program ≡ program.now) }
         ensures state { IfOk result (λ stage. Running (machine_of stage) ≡ start program.now input.items) }
     {

@@ -79,9 +79,8 @@ zero-element (element.Scalar LongUnsignedInt) = record { above = omega (arith, i
 pub elements-first : (declared : List Array) → All HasInitial declared → AreElements declared (first_arrays declared)
 elements-first [] h = tt
 elements-first (a ∷ more) h =
-    let one = All-head HasInitial a more h in
-    (
-        All-append (IsElement a.element) a.initial (replicate (a.length - length a.initial) (pos 0)) one
-        (All-replicate (IsElement a.element) (a.length - length a.initial) (pos 0) (zero-element a.element)),
-        elements-first more (All-tail HasInitial a more h)
+    let one = All-head HasInitial a more h in (
+      All-append (IsElement a.element) a.initial (replicate (a.length - length a.initial) (pos 0)) one
+          (All-replicate (IsElement a.element) (a.length - length a.initial) (pos 0) (zero-element a.element)),
+      elements-first more (All-tail HasInitial a more h),
     )

@@ -136,7 +136,10 @@ impl<'a> Arrays<'a> {
     {
         let element = self.element(array)?;
         let num = self.at(array, index)?;
-        Some(Value { ty: read_as(element), num })
+        Some(Value {
+            ty: read_as(element),
+            num,
+        })
     }
 
     /// The element at an index as it is read, or None where there is no such array or element.

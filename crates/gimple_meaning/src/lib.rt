@@ -9,9 +9,9 @@
 mod arrays;
 mod cells;
 mod frames;
-mod layout;
 mod interp;
 mod laws;
+mod layout;
 mod moves;
 mod outcome;
 mod passing;
@@ -22,3 +22,6 @@ pub use gimple_ir::NoMemory;
 pub use interp::Interp;
 pub use laws::run_laws;
 pub use outcome::Outcome;
+
+#[cfg(test)]
+mod tests;

@@ -214,12 +214,7 @@ fn stored(element: ElementType, value: Value) -> i128
     }
 }
 
-fn store(
-    arrays: &Arrays,
-    array: u32,
-    index: Option<Value>,
-    from: Option<Value>,
-) -> Move
+fn store(arrays: &Arrays, array: u32, index: Option<Value>, from: Option<Value>) -> Move
     requires index { IfSome index IsValue }
     requires from { IfSome from IsValue }
     ensures value { result ≡ store_on arrays.now.declared arrays.now.numbers array index from }
@@ -252,7 +247,11 @@ pub fn planned(layout: &Layout, arrays: &Arrays, cells: &Cells, statement: &Stat
             right,
             yes,
             no,
-        } => branch(operation(*op, cells.read(*left), cells.read(*right)), *yes, *no),
+        } => branch(
+            operation(*op, cells.read(*left), cells.read(*right)),
+            *yes,
+            *no,
+        ),
         Statement::Switch {
             on,
             cases,

@@ -100,10 +100,7 @@ fn statement_at(function: &Function, place: u32) -> Option<&Statement>
 fn target_at(program: &Program, frame: &Frame) -> Option<u32>
     ensures { result ≡ target_at (slice_get program.now.functions frame.now.function) frame.now.place }
 {
-    let function = program
-        .functions
-        .as_slice()
-        .get(frame.function() as usize)?;
+    let function = program.functions.as_slice().get(frame.function() as usize)?;
     let statement = function.body.as_slice().get(frame.place() as usize)?;
     target_of(statement)
 }
@@ -129,11 +126,7 @@ fn first_components(alloc: Global, main: Option<&Layout>) -> Result<Cells, NoMem
 
 impl<'a> Stage<'a> {
     /// A run before its first step.
-    pub fn start(
-        alloc: Global,
-        program: &'a Program,
-        input: Vec<u8>,
-    ) -> Result<Stage<'a>, NoMemory>
+    pub fn start(alloc: Global, program: &'a Program, input: Vec<u8>) -> Result<Stage<'a>, NoMemory>
         requires arrays { All HasInitial program.now.arrays }
         requires functions { All HasLiterals program.now.functions }
         ensures program { IfOk result (λ stage. stage.program ≡ program.now) }
@@ -355,12 +348,7 @@ impl<'a> Stage<'a> {
         Ok(Some(opened(callee, values)?))
     }
 
-    fn call(
-        &mut self,
-        function: &Function,
-        callee: u32,
-        args: &Args,
-    ) -> Result<Phase, NoMemory>
+    fn call(&mut self, function: &Function, callee: u32, args: &Args) -> Result<Phase, NoMemory>
         requires here { function_at self.old ≡ Some function.now }
         requires args { All IsArgument args.now }
         ensures program { self.new.program ≡ self.old.program }

@@ -1,0 +1,6 @@
+pub mod RunLaws
+pub mod WorkedRows
+pub mod Parts
+pub mod Places
+pub mod Handing
+pub mod StageLaws

@@ -1,0 +1,150 @@
+//! A function as the interpreter takes it: with the type of each component laid out.
+ghost use Rattle.std.specs.Prelude.{◌≡◌, IfOk, length, position, slice_get, sum_by, take};
+ghost use Rattle.gimple_ir.specs.Statements.{component_types};
+ghost use Rattle.gimple_ir.specs.CodeBound.{components_in, components_of, parameter_components};
+ghost use Rattle.gimple_meaning.specs.Source.{is_label, place_of, first_component};
+
+use gimple_ir::{Function, NoMemory, ScalarType, Statement, Variable};
+use std::alloc::Global;
+use std::marker::Model;
+
+/// A function, which contracts see as itself.
+#[derive(Drop)]
+pub struct Layout<'a> {
+    function: &'a Function,
+    types: Vec<ScalarType>,
+}
+
+impl<'a> Model for Layout<'a> {
+    ghost use Rattle.std.specs.Prelude.{◌≡◌};
+    ghost use Rattle.gimple_ir.specs.declared.types.Function.{Function as Definition};
+    ghost use Rattle.gimple_ir.specs.Statements.{component_types};
+
+    ghost Value = { Definition };
+
+    ghost view = { λ layout. layout.function.now };
+
+    ghost invariant = { λ layout. layout.types.items ≡ component_types layout.function.now.variables };
+}
+
+fn component_types(alloc: Global, variables: &[Variable]) -> Result<Vec<ScalarType>, NoMemory>
+    ensures { IfOk result (λ types. types.items ≡ component_types variables.now) }
+{
+    let mut types = Vec::new(alloc);
+    for variable in variables {
+        types.extend_from_slice(variable.types.as_slice())?;
+    }
+    Ok(types)
+}
+
+fn is_label(statement: &Statement, label: u32) -> bool
+    ensures { result ≡ is_label label statement.now }
+{
+    match statement {
+        Statement::Label(other) => *other == label,
+        _ => false,
+    }
+}
+
+fn find_label(body: &[Statement], label: u32) -> Option<usize>
+    ensures { result ≡ position (is_label label) body.now }
+{
+    body.iter().position(|s| is_label(s, label))
+}
+
+fn label_place(body: &[Statement], label: u32) -> usize
+    ensures { result ≡ place_of body.now label }
+{
+    match find_label(body, label) {
+        Some(place) => place,
+        None => body.len(),
+    }
+}
+
+fn count_components(variables: &[Variable]) -> Result<usize, NoMemory>
+    ensures { IfOk result (λ count. count ≡ components_in variables.now) }
+{
+    let mut count = 0usize;
+    for variable in variables {
+        let Some(more) = count.checked_add(variable.types.len()) else {
+            return Err(NoMemory);
+        };
+        count = more;
+    }
+    Ok(count)
+}
+
+fn first_variables(variables: &[Variable], count: u32) -> &[Variable]
+    ensures { result.now ≡ take count variables.now }
+{
+    if count as usize >= variables.len() {
+        variables
+    } else {
+        &variables[..count as usize]
+    }
+}
+
+impl<'a> Layout<'a> {
+    /// The layout of a function.
+    pub fn new(alloc: Global, function: &'a Function) -> Result<Layout<'a>, NoMemory>
+        ensures { IfOk result (λ layout. layout ≡ function.now) }
+    {
+        let types = component_types(alloc, function.variables.as_slice())?;
+        Ok(Layout { function, types })
+    }
+
+    /// The function.
+    pub fn function(&self) -> &'a Function
+        ensures { result.now ≡ self.now }
+    {
+        self.function
+    }
+
+    /// The type of a component, if it is there.
+    pub fn component_type(&self, component: u32) -> Option<ScalarType>
+        ensures { result ≡ slice_get (component_types self.now.variables) component }
+    {
+        self.types.get(component as usize).copied()
+    }
+
+    /// The place of a label, or the end of the body.
+    pub fn place(&self, label: u32) -> usize
+        ensures { result ≡ place_of self.now.body label }
+    {
+        label_place(self.function.body.as_slice(), label)
+    }
+
+    /// The number of a variable's first component; one that no `usize` holds is refused as want of memory.
+    pub fn first_component(&self, variable: u32) -> Result<usize, NoMemory>
+        ensures { IfOk result (λ first. first ≡ first_component self.now.variables variable) }
+    {
+        count_components(first_variables(self.function.variables.as_slice(), variable))
+    }
+
+    /// The number of a variable's components.
+    pub fn components_of(&self, variable: u32) -> usize
+        ensures { result ≡ components_of self.now.variables variable }
+    {
+        match self.function.variables.as_slice().get(variable as usize) {
+            Some(found) => found.types.len(),
+            None => 0,
+        }
+    }
+
+    /// The number of components.
+    pub fn components(&self) -> Result<usize, NoMemory>
+        ensures { IfOk result (λ count. count ≡ components_in self.now.variables) }
+    {
+        count_components(self.function.variables.as_slice())
+    }
+
+    /// The number of parameters' components.
+    pub fn parameter_components(&self) -> Result<usize, NoMemory>
+        ensures { IfOk result (λ count. count ≡ parameter_components self.now) }
+    {
+        count_components(first_variables(
+            self.function.variables.as_slice(),
+            self.function.parameters,
+        ))
+    }
+}

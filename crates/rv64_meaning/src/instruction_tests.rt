@@ -349,26 +349,26 @@ const RESULTS: [(u32, u64, u64, u64); 102] = [
     (0xffff_f3b7, 0, 0, 0xffff_ffff_ffff_f000),
 ];
 
-// The word of a branch by 16 bytes on t0 and t1; t0 and t1; how far it goes.
+// The word of a branch by 16 bytes on t0 and t1; t0 and t1; where it goes from 0x10000.
 const BRANCHES: [(u32, u64, u64, u64); 18] = [
-    (0x0062_8863, 5, 5, 16), // beq
-    (0x0062_8863, 0xffff_ffff_ffff_ffff, 1, 4), // beq
-    (0x0062_8863, 1, 0xffff_ffff_ffff_ffff, 4), // beq
-    (0x0062_9863, 5, 5, 4), // bne
-    (0x0062_9863, 0xffff_ffff_ffff_ffff, 1, 16), // bne
-    (0x0062_9863, 1, 0xffff_ffff_ffff_ffff, 16), // bne
-    (0x0062_c863, 5, 5, 4), // blt
-    (0x0062_c863, 0xffff_ffff_ffff_ffff, 1, 16), // blt
-    (0x0062_c863, 1, 0xffff_ffff_ffff_ffff, 4), // blt
-    (0x0062_d863, 5, 5, 16), // bge
-    (0x0062_d863, 0xffff_ffff_ffff_ffff, 1, 4), // bge
-    (0x0062_d863, 1, 0xffff_ffff_ffff_ffff, 16), // bge
-    (0x0062_e863, 5, 5, 4), // bltu
-    (0x0062_e863, 0xffff_ffff_ffff_ffff, 1, 4), // bltu
-    (0x0062_e863, 1, 0xffff_ffff_ffff_ffff, 16), // bltu
-    (0x0062_f863, 5, 5, 16), // bgeu
-    (0x0062_f863, 0xffff_ffff_ffff_ffff, 1, 16), // bgeu
-    (0x0062_f863, 1, 0xffff_ffff_ffff_ffff, 4), // bgeu
+    (0x0062_8863, 5, 5, 0x10010), // beq
+    (0x0062_8863, 0xffff_ffff_ffff_ffff, 1, 0x10004), // beq
+    (0x0062_8863, 1, 0xffff_ffff_ffff_ffff, 0x10004), // beq
+    (0x0062_9863, 5, 5, 0x10004), // bne
+    (0x0062_9863, 0xffff_ffff_ffff_ffff, 1, 0x10010), // bne
+    (0x0062_9863, 1, 0xffff_ffff_ffff_ffff, 0x10010), // bne
+    (0x0062_c863, 5, 5, 0x10004), // blt
+    (0x0062_c863, 0xffff_ffff_ffff_ffff, 1, 0x10010), // blt
+    (0x0062_c863, 1, 0xffff_ffff_ffff_ffff, 0x10004), // blt
+    (0x0062_d863, 5, 5, 0x10010), // bge
+    (0x0062_d863, 0xffff_ffff_ffff_ffff, 1, 0x10004), // bge
+    (0x0062_d863, 1, 0xffff_ffff_ffff_ffff, 0x10010), // bge
+    (0x0062_e863, 5, 5, 0x10004), // bltu
+    (0x0062_e863, 0xffff_ffff_ffff_ffff, 1, 0x10004), // bltu
+    (0x0062_e863, 1, 0xffff_ffff_ffff_ffff, 0x10010), // bltu
+    (0x0062_f863, 5, 5, 0x10010), // bgeu
+    (0x0062_f863, 0xffff_ffff_ffff_ffff, 1, 0x10010), // bgeu
+    (0x0062_f863, 1, 0xffff_ffff_ffff_ffff, 0x10004), // bgeu
 ];
 
 // Loads into t2 from the data's start in t0.
@@ -396,14 +396,11 @@ const STORES: [(u32, u64); 5] = [
 
 const DATA: u64 = 0xf0e1_d2c3_b4a5_9687;
 
-// A machine before one word, with t0 and t1, and sixteen bytes of data from 0x11000 on.
-fn before(alloc: Global, word: u32, t0: u64, t1: u64) -> Result<Machine, AllocError> {
+// A machine before one word, with sixteen bytes of data from 0x11000 on and three of input.
+fn machine_with(alloc: Global, word: u32, registers: [u64; 32]) -> Result<Machine, AllocError> {
     let mut bytes = Vec::with_capacity(alloc, 16)?;
     bytes.resize(8, 0)?;
     bytes.extend_from_slice(&DATA.to_le_bytes())?;
-    let mut registers = [0; 32];
-    registers[5] = t0;
-    registers[6] = t1;
     let hart = Hart {
         text: Vec::from_array(alloc, word.to_le_bytes())?,
         data: bytes,
@@ -419,26 +416,26 @@ fn before(alloc: Global, word: u32, t0: u64, t1: u64) -> Result<Machine, AllocEr
     })
 }
 
+// The same, with t0 and t1.
+fn before(alloc: Global, word: u32, t0: u64, t1: u64) -> Result<Machine, AllocError> {
+    let mut registers = [0; 32];
+    registers[5] = t0;
+    registers[6] = t1;
+    machine_with(alloc, word, registers)
+}
+
 #[test]
 fn results_of_instructions(rt: HostRuntime) -> Result<(), Fail> {
     for (word, t0, t1, t2) in RESULTS {
         let mut machine = before(rt.alloc(), word, t0, t1)?;
         assert_eq!(rt; machine.step(), Event::Quiet, "{word:x}");
-        assert_eq!(rt;
-            machine.hart.registers[7],
-            t2,
-            "{word:x} of {t0:x} and {t1:x}"
-        );
+        assert_eq!(rt; machine.hart.x(7), t2, "{word:x} of {t0:x} and {t1:x}");
         assert_eq!(rt; machine.hart.pc, 0x10004);
     }
-    for (word, t0, t1, distance) in BRANCHES {
+    for (word, t0, t1, to) in BRANCHES {
         let mut machine = before(rt.alloc(), word, t0, t1)?;
         assert_eq!(rt; machine.step(), Event::Quiet, "{word:x}");
-        assert_eq!(rt;
-            machine.hart.pc,
-            0x10000 + distance,
-            "{word:x} on {t0:x} and {t1:x}"
-        );
+        assert_eq!(rt; machine.hart.pc, to, "{word:x} on {t0:x} and {t1:x}");
     }
     Ok(())
 }
@@ -448,7 +445,7 @@ fn loads_and_stores(rt: HostRuntime) -> Result<(), Fail> {
     for (word, t2) in LOADS {
         let mut machine = before(rt.alloc(), word, 0x11000, 0)?;
         assert_eq!(rt; machine.step(), Event::Quiet, "{word:x}");
-        assert_eq!(rt; machine.hart.registers[7], t2, "{word:x}");
+        assert_eq!(rt; machine.hart.x(7), t2, "{word:x}");
     }
     for (word, bytes) in STORES {
         let mut machine = before(rt.alloc(), word, 0x11000, 0x0123_4567_89ab_cdef)?;
@@ -475,7 +472,7 @@ fn addresses(rt: HostRuntime) -> Result<(), Fail> {
     for (word, t0, t2, pc) in rows {
         let mut machine = before(rt.alloc(), word, t0, 0)?;
         assert_eq!(rt; machine.step(), Event::Quiet, "{word:x}");
-        assert_eq!(rt; machine.hart.registers[7], t2, "{word:x}");
+        assert_eq!(rt; machine.hart.x(7), t2, "{word:x}");
         assert_eq!(rt; machine.hart.pc, pc, "{word:x}");
     }
     Ok(())
@@ -542,17 +539,14 @@ fn environment_calls(rt: HostRuntime) -> Result<(), Fail> {
         (0, 0, 0, 0, trapped, 0),
     ];
     for (a7, a0, a1, a2, event, result) in rows {
-        let mut machine = before(rt.alloc(), 0x0000_0073, 0, 0)?;
-        machine.hart.registers[17] = a7;
-        machine.hart.registers[10] = a0;
-        machine.hart.registers[11] = a1;
-        machine.hart.registers[12] = a2;
+        let mut registers = [0; 32];
+        registers[17] = a7;
+        registers[10] = a0;
+        registers[11] = a1;
+        registers[12] = a2;
+        let mut machine = machine_with(rt.alloc(), 0x0000_0073, registers)?;
         assert_eq!(rt; machine.step(), event, "{a7} of {a0}, {a1:x}, {a2}");
-        assert_eq!(rt;
-            machine.hart.registers[10],
-            result,
-            "{a7} of {a0}, {a1:x}, {a2}"
-        );
+        assert_eq!(rt; machine.hart.x(10), result, "{a7} of {a0}, {a1:x}, {a2}");
     }
     Ok(())
 }

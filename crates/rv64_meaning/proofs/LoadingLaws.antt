@@ -1,5 +1,5 @@
 -- Fields of an image, and the first that is wrong.
-use Rattle.std.proofs.Common.{◌≡◌, ℕ, zero, suc, ◌+◌, ◌-◌, ◌<◌, ◌≤◌, Bool, true, false, List, [], ◌∷◌, ◌++◌, length, take, drop, map, Option, Some, None, refl, sym, ap, ◌∙◌, arith}
+use Rattle.std.proofs.Common.{◌≡◌, ℕ, zero, suc, ◌+◌, ◌-◌, ◌≤◌, true, false, List, [], ◌∷◌, ◌++◌, length, take, drop, Some, None, refl, sym, ap, ◌∙◌, arith}
 use Rattle.std.specs.Prelude.{slice_index, replicate, min}
 use Rattle.std.proofs.Common.{inl, inr}
 use Rattle.std.proofs.lemmas.Bool.{cases_lt}
@@ -7,7 +7,7 @@ use Rattle.std.proofs.Math.Nat.{min-eq_left}
 use Rattle.std.proofs.Math.Path.{fun_ext}
 use Rattle.std.proofs.lemmas.List.{length-drop, take_all}
 use Rattle.std.specs.Option.{option_or}
-use Rattle.rv64_meaning.specs.Machine.{State, load, bytes_from}
+use Rattle.rv64_meaning.specs.Machine.{State}
 use Rattle.rv64_meaning.specs.Bytes.{number_of}
 use Rattle.rv64_meaning.specs.Loading.{Field, number_at, first_wrong, memory_of, text_of, data_of, data_start, start_of}
 use Rattle.rv64_meaning.proofs.ByteLaws.{load-number, bytes_of_list}

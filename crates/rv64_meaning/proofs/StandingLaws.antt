@@ -6,7 +6,7 @@ use Rattle.rv64_isa.specs.declared.instr.Instr.TheVariants.{Lb, Lh, Lw, Ld, Lbu,
 use Rattle.rv64_meaning.specs.declared.hart.Hart.{Hart}
 use Rattle.rv64_meaning.specs.declared.event.Event.{Event}
 use Rattle.rv64_meaning.specs.declared.event.Event.TheVariants.{Quiet, Wrote, Ended, Trapped}
-use Rattle.rv64_meaning.specs.Machine.{Segments, State, Next, Go, End, Trap, Standing, At, EndedWith, TrappedAt, effect, fetch, step, follow, next, after, outcome_of, bytes_from, load, store, store_bytes, read_reg, set_at, put, in_text, in_data, can_load, can_store, load_to, store_from, read_input, write_output, service}
+use Rattle.rv64_meaning.specs.Machine.{Segments, State, Next, Go, End, Trap, Standing, At, EndedWith, TrappedAt, effect, step, follow, next, after, outcome_of, bytes_from, load, store, store_bytes, read_reg, set_at, put, in_text, in_data, can_load, can_store, load_to, store_from, read_input, write_output, service}
 use Rattle.rv64_meaning.specs.Arithmetic.{plus, of_word, sign_extended}
 use Rattle.rv64_meaning.specs.View.{segments_of_hart, state_of, Does}
 use Rattle.rv64_meaning.specs.declared.event.MachineState.{MachineState}

@@ -15,8 +15,8 @@ use crate::hart::Hart;
 use rv64_isa::{Instr, decode};
 
 impl Hart {
-    // Register `x` of a number: 0 is 0.
-    fn x(&self, r: u8) -> u64
+    /// Register `x` of a number: 0 is 0.
+    pub(crate) fn x(&self, r: u8) -> u64
         requires { r < 32 }
         ensures { result ≡ read_reg (state_of self.now) r }
     {

@@ -6,302 +6,119 @@ use crate::hart::Hart;
 use std::alloc::{AllocError, Global};
 use std::test::Fail;
 
+const ONES: u64 = u64::MAX;
+
+const LEAST: u64 = 1 << 63;
+
+const LEAST_WORD: u64 = 0xffff_ffff_8000_0000;
+
+const PATTERN: u64 = 0x89ab_cdef_8123_4567;
+
+const WIDE: u64 = 0x1000_0000_0000_0025;
+
+const UNEVEN: u64 = 0xfedc_ba98_ffff_fff9;
+
 // The word of an instruction on t0 and t1 with result t2; t0 and t1; t2 behind it.
 const RESULTS: [(u32, u64, u64, u64); 102] = [
     // add
-    (
-        0x0062_83b3,
-        0x8000_0000_0000_0000,
-        0xffff_ffff_ffff_ffff,
-        0x7fff_ffff_ffff_ffff,
-    ),
-    (
-        0x0062_83b3,
-        0x89ab_cdef_8123_4567,
-        0x1000_0000_0000_0025,
-        0x99ab_cdef_8123_458c,
-    ),
+    (0x0062_83b3, LEAST, ONES, 0x7fff_ffff_ffff_ffff),
+    (0x0062_83b3, PATTERN, WIDE, 0x99ab_cdef_8123_458c),
     // sll
-    (0x0062_93b3, 0x8000_0000_0000_0000, 0xffff_ffff_ffff_ffff, 0),
-    (
-        0x0062_93b3,
-        0x89ab_cdef_8123_4567,
-        0x1000_0000_0000_0025,
-        0x2468_ace0_0000_0000,
-    ),
+    (0x0062_93b3, LEAST, ONES, 0),
+    (0x0062_93b3, PATTERN, WIDE, 0x2468_ace0_0000_0000),
     // slt
-    (0x0062_a3b3, 0x8000_0000_0000_0000, 0xffff_ffff_ffff_ffff, 1),
-    (0x0062_a3b3, 0x89ab_cdef_8123_4567, 0x1000_0000_0000_0025, 1),
+    (0x0062_a3b3, LEAST, ONES, 1),
+    (0x0062_a3b3, PATTERN, WIDE, 1),
     // sltu
-    (0x0062_b3b3, 0x8000_0000_0000_0000, 0xffff_ffff_ffff_ffff, 1),
-    (0x0062_b3b3, 0x89ab_cdef_8123_4567, 0x1000_0000_0000_0025, 0),
+    (0x0062_b3b3, LEAST, ONES, 1),
+    (0x0062_b3b3, PATTERN, WIDE, 0),
     // xor
-    (
-        0x0062_c3b3,
-        0x8000_0000_0000_0000,
-        0xffff_ffff_ffff_ffff,
-        0x7fff_ffff_ffff_ffff,
-    ),
-    (
-        0x0062_c3b3,
-        0x89ab_cdef_8123_4567,
-        0x1000_0000_0000_0025,
-        0x99ab_cdef_8123_4542,
-    ),
+    (0x0062_c3b3, LEAST, ONES, 0x7fff_ffff_ffff_ffff),
+    (0x0062_c3b3, PATTERN, WIDE, 0x99ab_cdef_8123_4542),
     // srl
-    (0x0062_d3b3, 0x8000_0000_0000_0000, 0xffff_ffff_ffff_ffff, 1),
-    (
-        0x0062_d3b3,
-        0x89ab_cdef_8123_4567,
-        0x1000_0000_0000_0025,
-        0x44d_5e6f,
-    ),
+    (0x0062_d3b3, LEAST, ONES, 1),
+    (0x0062_d3b3, PATTERN, WIDE, 0x44d_5e6f),
     // or
-    (
-        0x0062_e3b3,
-        0x8000_0000_0000_0000,
-        0xffff_ffff_ffff_ffff,
-        0xffff_ffff_ffff_ffff,
-    ),
-    (
-        0x0062_e3b3,
-        0x89ab_cdef_8123_4567,
-        0x1000_0000_0000_0025,
-        0x99ab_cdef_8123_4567,
-    ),
+    (0x0062_e3b3, LEAST, ONES, ONES),
+    (0x0062_e3b3, PATTERN, WIDE, 0x99ab_cdef_8123_4567),
     // and
-    (
-        0x0062_f3b3,
-        0x8000_0000_0000_0000,
-        0xffff_ffff_ffff_ffff,
-        0x8000_0000_0000_0000,
-    ),
-    (
-        0x0062_f3b3,
-        0x89ab_cdef_8123_4567,
-        0x1000_0000_0000_0025,
-        37,
-    ),
+    (0x0062_f3b3, LEAST, ONES, LEAST),
+    (0x0062_f3b3, PATTERN, WIDE, 37),
     // sub
-    (
-        0x4062_83b3,
-        0x8000_0000_0000_0000,
-        0xffff_ffff_ffff_ffff,
-        0x8000_0000_0000_0001,
-    ),
-    (
-        0x4062_83b3,
-        0x89ab_cdef_8123_4567,
-        0x1000_0000_0000_0025,
-        0x79ab_cdef_8123_4542,
-    ),
+    (0x4062_83b3, LEAST, ONES, 0x8000_0000_0000_0001),
+    (0x4062_83b3, PATTERN, WIDE, 0x79ab_cdef_8123_4542),
     // sra
-    (
-        0x4062_d3b3,
-        0x8000_0000_0000_0000,
-        0xffff_ffff_ffff_ffff,
-        0xffff_ffff_ffff_ffff,
-    ),
-    (
-        0x4062_d3b3,
-        0x89ab_cdef_8123_4567,
-        0x1000_0000_0000_0025,
-        0xffff_ffff_fc4d_5e6f,
-    ),
+    (0x4062_d3b3, LEAST, ONES, ONES),
+    (0x4062_d3b3, PATTERN, WIDE, 0xffff_ffff_fc4d_5e6f),
     // addw
-    (
-        0x0062_83bb,
-        0x8000_0000_0000_0000,
-        0xffff_ffff_ffff_ffff,
-        0xffff_ffff_ffff_ffff,
-    ),
-    (
-        0x0062_83bb,
-        0x89ab_cdef_8123_4567,
-        0x1000_0000_0000_0025,
-        0xffff_ffff_8123_458c,
-    ),
+    (0x0062_83bb, LEAST, ONES, ONES),
+    (0x0062_83bb, PATTERN, WIDE, 0xffff_ffff_8123_458c),
     // sllw
-    (0x0062_93bb, 0x8000_0000_0000_0000, 0xffff_ffff_ffff_ffff, 0),
-    (
-        0x0062_93bb,
-        0x89ab_cdef_8123_4567,
-        0x1000_0000_0000_0025,
-        0x2468_ace0,
-    ),
+    (0x0062_93bb, LEAST, ONES, 0),
+    (0x0062_93bb, PATTERN, WIDE, 0x2468_ace0),
     // srlw
-    (0x0062_d3bb, 0x8000_0000_0000_0000, 0xffff_ffff_ffff_ffff, 0),
-    (
-        0x0062_d3bb,
-        0x89ab_cdef_8123_4567,
-        0x1000_0000_0000_0025,
-        0x409_1a2b,
-    ),
+    (0x0062_d3bb, LEAST, ONES, 0),
+    (0x0062_d3bb, PATTERN, WIDE, 0x409_1a2b),
     // subw
-    (0x4062_83bb, 0x8000_0000_0000_0000, 0xffff_ffff_ffff_ffff, 1),
-    (
-        0x4062_83bb,
-        0x89ab_cdef_8123_4567,
-        0x1000_0000_0000_0025,
-        0xffff_ffff_8123_4542,
-    ),
+    (0x4062_83bb, LEAST, ONES, 1),
+    (0x4062_83bb, PATTERN, WIDE, 0xffff_ffff_8123_4542),
     // sraw
-    (0x4062_d3bb, 0x8000_0000_0000_0000, 0xffff_ffff_ffff_ffff, 0),
-    (
-        0x4062_d3bb,
-        0x89ab_cdef_8123_4567,
-        0x1000_0000_0000_0025,
-        0xffff_ffff_fc09_1a2b,
-    ),
+    (0x4062_d3bb, LEAST, ONES, 0),
+    (0x4062_d3bb, PATTERN, WIDE, 0xffff_ffff_fc09_1a2b),
     // mul
-    (
-        0x0262_83b3,
-        0x8000_0000_0000_0000,
-        0xffff_ffff_ffff_ffff,
-        0x8000_0000_0000_0000,
-    ),
-    (
-        0x0262_83b3,
-        0x89ab_cdef_8123_4567,
-        0x1000_0000_0000_0025,
-        0x55d4_c39d_aa19_07e3,
-    ),
+    (0x0262_83b3, LEAST, ONES, LEAST),
+    (0x0262_83b3, PATTERN, WIDE, 0x55d4_c39d_aa19_07e3),
     // mulh
-    (0x0262_93b3, 0x8000_0000_0000_0000, 0xffff_ffff_ffff_ffff, 0),
-    (
-        0x0262_93b3,
-        0x89ab_cdef_8123_4567,
-        0x1000_0000_0000_0025,
-        0xf89a_bcde_f812_3445,
-    ),
+    (0x0262_93b3, LEAST, ONES, 0),
+    (0x0262_93b3, PATTERN, WIDE, 0xf89a_bcde_f812_3445),
     // mulhsu
-    (
-        0x0262_a3b3,
-        0x8000_0000_0000_0000,
-        0xffff_ffff_ffff_ffff,
-        0x8000_0000_0000_0000,
-    ),
-    (
-        0x0262_a3b3,
-        0x89ab_cdef_8123_4567,
-        0x1000_0000_0000_0025,
-        0xf89a_bcde_f812_3445,
-    ),
+    (0x0262_a3b3, LEAST, ONES, LEAST),
+    (0x0262_a3b3, PATTERN, WIDE, 0xf89a_bcde_f812_3445),
     // mulhu
-    (
-        0x0262_b3b3,
-        0x8000_0000_0000_0000,
-        0xffff_ffff_ffff_ffff,
-        0x7fff_ffff_ffff_ffff,
-    ),
-    (
-        0x0262_b3b3,
-        0x89ab_cdef_8123_4567,
-        0x1000_0000_0000_0025,
-        0x89a_bcde_f812_346a,
-    ),
+    (0x0262_b3b3, LEAST, ONES, 0x7fff_ffff_ffff_ffff),
+    (0x0262_b3b3, PATTERN, WIDE, 0x89a_bcde_f812_346a),
     // div
-    (
-        0x0262_c3b3,
-        0x8000_0000_0000_0000,
-        0xffff_ffff_ffff_ffff,
-        0x8000_0000_0000_0000,
-    ),
-    (
-        0x0262_c3b3,
-        0x89ab_cdef_8123_4567,
-        0x1000_0000_0000_0025,
-        0xffff_ffff_ffff_fff9,
-    ),
-    (0x0262_c3b3, 0xfedc_ba98_ffff_fff9, 0, 0xffff_ffff_ffff_ffff),
+    (0x0262_c3b3, LEAST, ONES, LEAST),
+    (0x0262_c3b3, PATTERN, WIDE, 0xffff_ffff_ffff_fff9),
+    (0x0262_c3b3, UNEVEN, 0, ONES),
     (0x0262_c3b3, 0xffff_ffff_ffff_fff9, 2, 0xffff_ffff_ffff_fffd),
     // divu
-    (0x0262_d3b3, 0x8000_0000_0000_0000, 0xffff_ffff_ffff_ffff, 0),
-    (0x0262_d3b3, 0x89ab_cdef_8123_4567, 0x1000_0000_0000_0025, 8),
-    (0x0262_d3b3, 0xfedc_ba98_ffff_fff9, 0, 0xffff_ffff_ffff_ffff),
+    (0x0262_d3b3, LEAST, ONES, 0),
+    (0x0262_d3b3, PATTERN, WIDE, 8),
+    (0x0262_d3b3, UNEVEN, 0, ONES),
     (0x0262_d3b3, 0xffff_ffff_ffff_fff9, 2, 0x7fff_ffff_ffff_fffc),
     // rem
-    (0x0262_e3b3, 0x8000_0000_0000_0000, 0xffff_ffff_ffff_ffff, 0),
-    (
-        0x0262_e3b3,
-        0x89ab_cdef_8123_4567,
-        0x1000_0000_0000_0025,
-        0xf9ab_cdef_8123_466a,
-    ),
-    (0x0262_e3b3, 0xfedc_ba98_ffff_fff9, 0, 0xfedc_ba98_ffff_fff9),
-    (0x0262_e3b3, 0xffff_ffff_ffff_fff9, 2, 0xffff_ffff_ffff_ffff),
+    (0x0262_e3b3, LEAST, ONES, 0),
+    (0x0262_e3b3, PATTERN, WIDE, 0xf9ab_cdef_8123_466a),
+    (0x0262_e3b3, UNEVEN, 0, UNEVEN),
+    (0x0262_e3b3, 0xffff_ffff_ffff_fff9, 2, ONES),
     // remu
-    (
-        0x0262_f3b3,
-        0x8000_0000_0000_0000,
-        0xffff_ffff_ffff_ffff,
-        0x8000_0000_0000_0000,
-    ),
-    (
-        0x0262_f3b3,
-        0x89ab_cdef_8123_4567,
-        0x1000_0000_0000_0025,
-        0x9ab_cdef_8123_443f,
-    ),
-    (0x0262_f3b3, 0xfedc_ba98_ffff_fff9, 0, 0xfedc_ba98_ffff_fff9),
+    (0x0262_f3b3, LEAST, ONES, LEAST),
+    (0x0262_f3b3, PATTERN, WIDE, 0x9ab_cdef_8123_443f),
+    (0x0262_f3b3, UNEVEN, 0, UNEVEN),
     (0x0262_f3b3, 0xffff_ffff_ffff_fff9, 2, 1),
     // mulw
-    (0x0262_83bb, 0x8000_0000_0000_0000, 0xffff_ffff_ffff_ffff, 0),
-    (
-        0x0262_83bb,
-        0x89ab_cdef_8123_4567,
-        0x1000_0000_0000_0025,
-        0xffff_ffff_aa19_07e3,
-    ),
+    (0x0262_83bb, LEAST, ONES, 0),
+    (0x0262_83bb, PATTERN, WIDE, 0xffff_ffff_aa19_07e3),
     // divw
-    (
-        0x0262_c3bb,
-        0xffff_ffff_8000_0000,
-        0xffff_ffff_ffff_ffff,
-        0xffff_ffff_8000_0000,
-    ),
-    (
-        0x0262_c3bb,
-        0x89ab_cdef_8123_4567,
-        0x1000_0000_0000_0025,
-        0xffff_ffff_fc92_4026,
-    ),
-    (0x0262_c3bb, 0xfedc_ba98_ffff_fff9, 0, 0xffff_ffff_ffff_ffff),
+    (0x0262_c3bb, LEAST_WORD, ONES, LEAST_WORD),
+    (0x0262_c3bb, PATTERN, WIDE, 0xffff_ffff_fc92_4026),
+    (0x0262_c3bb, UNEVEN, 0, ONES),
     (0x0262_c3bb, 0xffff_ffff_ffff_fff9, 2, 0xffff_ffff_ffff_fffd),
     // divuw
-    (0x0262_d3bb, 0xffff_ffff_8000_0000, 0xffff_ffff_ffff_ffff, 0),
-    (
-        0x0262_d3bb,
-        0x89ab_cdef_8123_4567,
-        0x1000_0000_0000_0025,
-        0x37d_7e6a,
-    ),
-    (0x0262_d3bb, 0xfedc_ba98_ffff_fff9, 0, 0xffff_ffff_ffff_ffff),
+    (0x0262_d3bb, LEAST_WORD, ONES, 0),
+    (0x0262_d3bb, PATTERN, WIDE, 0x37d_7e6a),
+    (0x0262_d3bb, UNEVEN, 0, ONES),
     (0x0262_d3bb, 0xffff_ffff_ffff_fff9, 2, 0x7fff_fffc),
     // remw
-    (0x0262_e3bb, 0xffff_ffff_8000_0000, 0xffff_ffff_ffff_ffff, 0),
-    (
-        0x0262_e3bb,
-        0x89ab_cdef_8123_4567,
-        0x1000_0000_0000_0025,
-        0xffff_ffff_ffff_ffe9,
-    ),
-    (0x0262_e3bb, 0xfedc_ba98_ffff_fff9, 0, 0xffff_ffff_ffff_fff9),
-    (0x0262_e3bb, 0xffff_ffff_ffff_fff9, 2, 0xffff_ffff_ffff_ffff),
+    (0x0262_e3bb, LEAST_WORD, ONES, 0),
+    (0x0262_e3bb, PATTERN, WIDE, 0xffff_ffff_ffff_ffe9),
+    (0x0262_e3bb, UNEVEN, 0, 0xffff_ffff_ffff_fff9),
+    (0x0262_e3bb, 0xffff_ffff_ffff_fff9, 2, ONES),
     // remuw
-    (
-        0x0262_f3bb,
-        0xffff_ffff_8000_0000,
-        0xffff_ffff_ffff_ffff,
-        0xffff_ffff_8000_0000,
-    ),
-    (
-        0x0262_f3bb,
-        0x89ab_cdef_8123_4567,
-        0x1000_0000_0000_0025,
-        21,
-    ),
-    (0x0262_f3bb, 0xfedc_ba98_ffff_fff9, 0, 0xffff_ffff_ffff_fff9),
+    (0x0262_f3bb, LEAST_WORD, ONES, LEAST_WORD),
+    (0x0262_f3bb, PATTERN, WIDE, 21),
+    (0x0262_f3bb, UNEVEN, 0, 0xffff_ffff_ffff_fff9),
     (0x0262_f3bb, 0xffff_ffff_ffff_fff9, 2, 1),
     // addi
     (0x8002_8393, 5, 0, 0xffff_ffff_ffff_f805),
@@ -325,50 +142,50 @@ const RESULTS: [(u32, u64, u64, u64); 102] = [
     (0x8002_839b, 5, 0, 0xffff_ffff_ffff_f805),
     (0x7ff2_839b, 0x7fff_ffff_ffff_ffff, 0, 0x7fe),
     // slli
-    (0x0012_9393, 0x89ab_cdef_8123_4567, 0, 0x1357_9bdf_0246_8ace),
-    (0x03f2_9393, 0x89ab_cdef_8123_4567, 0, 0x8000_0000_0000_0000),
+    (0x0012_9393, PATTERN, 0, 0x1357_9bdf_0246_8ace),
+    (0x03f2_9393, PATTERN, 0, LEAST),
     // srli
-    (0x0012_d393, 0x89ab_cdef_8123_4567, 0, 0x44d5_e6f7_c091_a2b3),
-    (0x03f2_d393, 0x89ab_cdef_8123_4567, 0, 1),
+    (0x0012_d393, PATTERN, 0, 0x44d5_e6f7_c091_a2b3),
+    (0x03f2_d393, PATTERN, 0, 1),
     // srai
-    (0x4012_d393, 0x89ab_cdef_8123_4567, 0, 0xc4d5_e6f7_c091_a2b3),
-    (0x43f2_d393, 0x89ab_cdef_8123_4567, 0, 0xffff_ffff_ffff_ffff),
+    (0x4012_d393, PATTERN, 0, 0xc4d5_e6f7_c091_a2b3),
+    (0x43f2_d393, PATTERN, 0, ONES),
     // slliw
-    (0x0012_939b, 0x89ab_cdef_8123_4567, 0, 0x246_8ace),
-    (0x01f2_939b, 0x89ab_cdef_8123_4567, 0, 0xffff_ffff_8000_0000),
+    (0x0012_939b, PATTERN, 0, 0x246_8ace),
+    (0x01f2_939b, PATTERN, 0, LEAST_WORD),
     // srliw
-    (0x0002_d39b, 0x89ab_cdef_8123_4567, 0, 0xffff_ffff_8123_4567),
-    (0x01f2_d39b, 0x89ab_cdef_8123_4567, 0, 1),
+    (0x0002_d39b, PATTERN, 0, 0xffff_ffff_8123_4567),
+    (0x01f2_d39b, PATTERN, 0, 1),
     // sraiw
-    (0x4002_d39b, 0x89ab_cdef_8123_4567, 0, 0xffff_ffff_8123_4567),
-    (0x41f2_d39b, 0x89ab_cdef_8123_4567, 0, 0xffff_ffff_ffff_ffff),
+    (0x4002_d39b, PATTERN, 0, 0xffff_ffff_8123_4567),
+    (0x41f2_d39b, PATTERN, 0, ONES),
     // lui
     (0x0000_03b7, 0, 0, 0),
     (0x7fff_f3b7, 0, 0, 0x7fff_f000),
-    (0x8000_03b7, 0, 0, 0xffff_ffff_8000_0000),
+    (0x8000_03b7, 0, 0, LEAST_WORD),
     (0xffff_f3b7, 0, 0, 0xffff_ffff_ffff_f000),
 ];
 
-// The word of a branch by 16 bytes on t0 and t1; t0 and t1; how far it goes.
+// The word of a branch by 16 bytes on t0 and t1; t0 and t1; where it goes from 0x10000.
 const BRANCHES: [(u32, u64, u64, u64); 18] = [
-    (0x0062_8863, 5, 5, 16), // beq
-    (0x0062_8863, 0xffff_ffff_ffff_ffff, 1, 4), // beq
-    (0x0062_8863, 1, 0xffff_ffff_ffff_ffff, 4), // beq
-    (0x0062_9863, 5, 5, 4), // bne
-    (0x0062_9863, 0xffff_ffff_ffff_ffff, 1, 16), // bne
-    (0x0062_9863, 1, 0xffff_ffff_ffff_ffff, 16), // bne
-    (0x0062_c863, 5, 5, 4), // blt
-    (0x0062_c863, 0xffff_ffff_ffff_ffff, 1, 16), // blt
-    (0x0062_c863, 1, 0xffff_ffff_ffff_ffff, 4), // blt
-    (0x0062_d863, 5, 5, 16), // bge
-    (0x0062_d863, 0xffff_ffff_ffff_ffff, 1, 4), // bge
-    (0x0062_d863, 1, 0xffff_ffff_ffff_ffff, 16), // bge
-    (0x0062_e863, 5, 5, 4), // bltu
-    (0x0062_e863, 0xffff_ffff_ffff_ffff, 1, 4), // bltu
-    (0x0062_e863, 1, 0xffff_ffff_ffff_ffff, 16), // bltu
-    (0x0062_f863, 5, 5, 16), // bgeu
-    (0x0062_f863, 0xffff_ffff_ffff_ffff, 1, 16), // bgeu
-    (0x0062_f863, 1, 0xffff_ffff_ffff_ffff, 4), // bgeu
+    (0x0062_8863, 5, 5, 0x10010), // beq
+    (0x0062_8863, ONES, 1, 0x10004), // beq
+    (0x0062_8863, 1, ONES, 0x10004), // beq
+    (0x0062_9863, 5, 5, 0x10004), // bne
+    (0x0062_9863, ONES, 1, 0x10010), // bne
+    (0x0062_9863, 1, ONES, 0x10010), // bne
+    (0x0062_c863, 5, 5, 0x10004), // blt
+    (0x0062_c863, ONES, 1, 0x10010), // blt
+    (0x0062_c863, 1, ONES, 0x10004), // blt
+    (0x0062_d863, 5, 5, 0x10010), // bge
+    (0x0062_d863, ONES, 1, 0x10004), // bge
+    (0x0062_d863, 1, ONES, 0x10010), // bge
+    (0x0062_e863, 5, 5, 0x10004), // bltu
+    (0x0062_e863, ONES, 1, 0x10004), // bltu
+    (0x0062_e863, 1, ONES, 0x10010), // bltu
+    (0x0062_f863, 5, 5, 0x10010), // bgeu
+    (0x0062_f863, ONES, 1, 0x10010), // bgeu
+    (0x0062_f863, 1, ONES, 0x10004), // bgeu
 ];
 
 // Loads into t2 from the data's start in t0.
@@ -396,14 +213,11 @@ const STORES: [(u32, u64); 5] = [
 
 const DATA: u64 = 0xf0e1_d2c3_b4a5_9687;
 
-// A machine before one word, with t0 and t1, and sixteen bytes of data from 0x11000 on.
-fn before(alloc: Global, word: u32, t0: u64, t1: u64) -> Result<Machine, AllocError> {
+// A machine before one word, with sixteen bytes of data from 0x11000 on and three of input.
+fn machine_with(alloc: Global, word: u32, registers: [u64; 32]) -> Result<Machine, AllocError> {
     let mut bytes = Vec::with_capacity(alloc, 16)?;
     bytes.resize(8, 0)?;
     bytes.extend_from_slice(&DATA.to_le_bytes())?;
-    let mut registers = [0; 32];
-    registers[5] = t0;
-    registers[6] = t1;
     let hart = Hart {
         text: Vec::from_array(alloc, word.to_le_bytes())?,
         data: bytes,
@@ -419,26 +233,26 @@ fn before(alloc: Global, word: u32, t0: u64, t1: u64) -> Result<Machine, AllocEr
     })
 }
 
+// The same, with t0 and t1.
+fn before(alloc: Global, word: u32, t0: u64, t1: u64) -> Result<Machine, AllocError> {
+    let mut registers = [0; 32];
+    registers[5] = t0;
+    registers[6] = t1;
+    machine_with(alloc, word, registers)
+}
+
 #[test]
 fn results_of_instructions(rt: HostRuntime) -> Result<(), Fail> {
     for (word, t0, t1, t2) in RESULTS {
         let mut machine = before(rt.alloc(), word, t0, t1)?;
         assert_eq!(rt; machine.step(), Event::Quiet, "{word:x}");
-        assert_eq!(rt;
-            machine.hart.registers[7],
-            t2,
-            "{word:x} of {t0:x} and {t1:x}"
-        );
+        assert_eq!(rt; machine.hart.x(7), t2, "{word:x} of {t0:x} and {t1:x}");
         assert_eq!(rt; machine.hart.pc, 0x10004);
     }
-    for (word, t0, t1, distance) in BRANCHES {
+    for (word, t0, t1, to) in BRANCHES {
         let mut machine = before(rt.alloc(), word, t0, t1)?;
         assert_eq!(rt; machine.step(), Event::Quiet, "{word:x}");
-        assert_eq!(rt;
-            machine.hart.pc,
-            0x10000 + distance,
-            "{word:x} on {t0:x} and {t1:x}"
-        );
+        assert_eq!(rt; machine.hart.pc, to, "{word:x} on {t0:x} and {t1:x}");
     }
     Ok(())
 }
@@ -448,7 +262,7 @@ fn loads_and_stores(rt: HostRuntime) -> Result<(), Fail> {
     for (word, t2) in LOADS {
         let mut machine = before(rt.alloc(), word, 0x11000, 0)?;
         assert_eq!(rt; machine.step(), Event::Quiet, "{word:x}");
-        assert_eq!(rt; machine.hart.registers[7], t2, "{word:x}");
+        assert_eq!(rt; machine.hart.x(7), t2, "{word:x}");
     }
     for (word, bytes) in STORES {
         let mut machine = before(rt.alloc(), word, 0x11000, 0x0123_4567_89ab_cdef)?;
@@ -475,7 +289,7 @@ fn addresses(rt: HostRuntime) -> Result<(), Fail> {
     for (word, t0, t2, pc) in rows {
         let mut machine = before(rt.alloc(), word, t0, 0)?;
         assert_eq!(rt; machine.step(), Event::Quiet, "{word:x}");
-        assert_eq!(rt; machine.hart.registers[7], t2, "{word:x}");
+        assert_eq!(rt; machine.hart.x(7), t2, "{word:x}");
         assert_eq!(rt; machine.hart.pc, pc, "{word:x}");
     }
     Ok(())
@@ -542,17 +356,14 @@ fn environment_calls(rt: HostRuntime) -> Result<(), Fail> {
         (0, 0, 0, 0, trapped, 0),
     ];
     for (a7, a0, a1, a2, event, result) in rows {
-        let mut machine = before(rt.alloc(), 0x0000_0073, 0, 0)?;
-        machine.hart.registers[17] = a7;
-        machine.hart.registers[10] = a0;
-        machine.hart.registers[11] = a1;
-        machine.hart.registers[12] = a2;
+        let mut registers = [0; 32];
+        registers[17] = a7;
+        registers[10] = a0;
+        registers[11] = a1;
+        registers[12] = a2;
+        let mut machine = machine_with(rt.alloc(), 0x0000_0073, registers)?;
         assert_eq!(rt; machine.step(), event, "{a7} of {a0}, {a1:x}, {a2}");
-        assert_eq!(rt;
-            machine.hart.registers[10],
-            result,
-            "{a7} of {a0}, {a1:x}, {a2}"
-        );
+        assert_eq!(rt; machine.hart.x(10), result, "{a7} of {a0}, {a1:x}, {a2}");
     }
     Ok(())
 }

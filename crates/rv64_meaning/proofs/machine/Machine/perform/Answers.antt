@@ -1,6 +1,6 @@
-use Rattle.std.proofs.Common.{◌≡◌, ◌++◌, ap, ◌∙◌}
+use Rattle.std.proofs.Common.{◌++◌, ap, ◌∙◌}
 use Rattle.rv64_meaning.specs.View.{state_of}
-use Rattle.rv64_meaning.specs.Standings.{standing_by, written_by}
+use Rattle.rv64_meaning.specs.Standings.{standing_by}
 use Rattle.rv64_meaning.proofs.StandingLaws.{does_move, bytes_of}
 use Rattle.rv64_meaning.proofs.machine.Machine.perform.Goals as goal
 

@@ -1,6 +1,6 @@
-use Rattle.std.proofs.Common.{◌≡◌, ◌<◌, ◌≤◌, List, refl, sym, ap, ◌∙◌, arith}
+use Rattle.std.proofs.Common.{◌≤◌, refl, sym, ap, ◌∙◌, arith}
 use Rattle.std.proofs.lemmas.Result.{err_from_is_err_and}
-use Rattle.rv64_meaning.specs.Machine.{Standing, after, next, outcome_of}
+use Rattle.rv64_meaning.specs.Machine.{next, outcome_of}
 use Rattle.rv64_meaning.specs.View.{state_of}
 use Rattle.rv64_meaning.specs.Standings.{segments_of_machine, standing_of}
 use Rattle.rv64_meaning.proofs.StandingLaws.{after_one, over_after, outcome_stands}

@@ -1,4 +1,4 @@
-use Rattle.std.proofs.Common.{◌≡◌, List, [], ◌∷◌, ◌++◌, ap, ◌∙◌, subst, arith}
+use Rattle.std.proofs.Common.{ap, ◌∙◌, subst, arith}
 use Rattle.cache_lock.specs.Sequential.{state_after}
 use Rattle.cache_lock.specs.Passes.{PassValue, IsMade}
 use Rattle.cache_lock.proofs.Keeping.{ready_of, legal_now, entry_of}

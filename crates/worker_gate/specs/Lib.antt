@@ -1,0 +1,3 @@
+pub mod Fork
+pub mod Claims
+pub mod Steps

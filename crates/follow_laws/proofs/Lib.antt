@@ -1,2 +1,5 @@
 pub mod WayLaws
 pub mod SimulationLaws
+pub mod NumberLaws
+pub mod TemplateLaws
+pub mod StubLaws

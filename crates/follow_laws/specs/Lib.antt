@@ -1,3 +1,4 @@
 pub mod Follows
 pub mod Relation
+pub mod Effects
 pub mod Laws

@@ -2,9 +2,11 @@
 //! the laws.
 //!
 //! In specs/, `Follows` has the promise, `Relation` what it is for the machine to come from one state to another and for
-//! instructions to stand at a place, and `Laws` the statements of the laws.
+//! instructions to stand at a place, `Laws` how ways are joined and why a simulation is enough, and `Effects` what the templates
+//! of code and the stubs do.
 #![tactic(auto)]
 
+ghost use Rattle.follow_laws.specs.Effects.{ConstantSets, LoadSets, StoreStores, CallGoes, EnterMakesFrame, LeaveReturns, StartCalls, ExitEnds, PutcharWrites, GetcharReads};
 ghost use Rattle.follow_laws.specs.Laws.{ComesOn, LeadsOn, ComesToLead, ComesToEnd, FollowsBefore, SimulationFollows};
 
 /// How the machine's ways from state to state are joined.
@@ -19,4 +21,22 @@ pub fn ways()
 /// A machine that meets a program step after step follows it.
 pub fn simulation()
     ensures { SimulationFollows }
+{}
+
+/// What the templates of code do.
+pub fn templates()
+    ensures constant { ConstantSets }
+    ensures load { LoadSets }
+    ensures store { StoreStores }
+    ensures call { CallGoes }
+    ensures enter { EnterMakesFrame }
+    ensures leave { LeaveReturns }
+{}
+
+/// What the stubs do.
+pub fn stubs()
+    ensures start { StartCalls }
+    ensures exit { ExitEnds }
+    ensures putchar { PutcharWrites }
+    ensures getchar { GetcharReads }
 {}

@@ -3,3 +3,4 @@ pub mod SimulationLaws
 pub mod NumberLaws
 pub mod TemplateLaws
 pub mod StubLaws
+pub mod ImageLaws

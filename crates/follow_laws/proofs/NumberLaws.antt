@@ -73,7 +73,7 @@ distance from to h k =
 
 -- ---- ranges
 
-signed_by : (half : ℕ) (z : ℤ) → z <ℤ pos half → negsuc half <ℤ z → IsSigned (half + half) z
+pub signed_by : (half : ℕ) (z : ℤ) → z <ℤ pos half → negsuc half <ℤ z → IsSigned (half + half) z
 signed_by half (pos n) h l = omega (arith, ints)
 signed_by half (negsuc n) h l = omega (arith, ints)
 

@@ -1,4 +1,5 @@
 pub mod Follows
 pub mod Relation
 pub mod Effects
+pub mod Images
 pub mod Laws

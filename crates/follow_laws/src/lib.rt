@@ -7,6 +7,7 @@
 #![tactic(auto)]
 
 ghost use Rattle.follow_laws.specs.Effects.{ConstantSets, LoadSets, StoreStores, CallGoes, EnterMakesFrame, LeaveReturns, StartCalls, ExitEnds, PutcharWrites, GetcharReads};
+ghost use Rattle.follow_laws.specs.Images.{ImageHasSegments, ImageHasCode};
 ghost use Rattle.follow_laws.specs.Laws.{ComesOn, LeadsOn, ComesToLead, ComesToEnd, FollowsBefore, SimulationFollows};
 
 /// How the machine's ways from state to state are joined.
@@ -39,4 +40,10 @@ pub fn stubs()
     ensures exit { ExitEnds }
     ensures putchar { PutcharWrites }
     ensures getchar { GetcharReads }
+{}
+
+/// What the machine finds in an image.
+pub fn images()
+    ensures segments { ImageHasSegments }
+    ensures code { ImageHasCode }
 {}

@@ -1,0 +1,5 @@
+use Rattle.follow_laws.proofs.ImageLaws.{image_has_segments, image_has_code}
+use Rattle.follow_laws.proofs.images.Goals as goal
+
+pub returns : goal.returns
+returns c = record { segments = image_has_segments; code = image_has_code }

@@ -19,7 +19,7 @@ use Rattle.rv64_abi.specs.Offsets.{hi, lo}
 use Rattle.final_link.specs.Stubs.{stubs}
 use Rattle.final_link.specs.Image.{word_bytes, code_bytes, AllInRange, half, word, xword, elf_header, headers, text_size, data_address, scratch_address, stack_top, text_of, image_of}
 use Rattle.follow_laws.specs.Relation.{StandsAt}
-use Rattle.follow_laws.proofs.NumberLaws.{signed_by}
+use Rattle.follow_laws.proofs.EncodingLaws.{all_append, stubs_encode}
 use Rattle.follow_laws.specs.Images.{placed, IsSmall, ImageHasSegments, ImageHasCode}
 
 -- ---- bytes of code
@@ -150,23 +150,9 @@ image_has_segments main frame code small =
 
 -- ---- stubs and code
 
-lo_fits : (z : ℤ) → IsSigned (2 ^ 12) (lo z)
-lo_fits (pos n) = signed_by 2048 (lo (pos n)) (omega (arith, ints)) (omega (arith, ints))
-lo_fits (negsuc n) = signed_by 2048 (lo (negsuc n)) (grind (arith, nat_tests, ints)) (grind (arith, nat_tests, ints))
-
-upper_fits : (z : ℤ) → residue (2 ^ 20) (hi z) < 2 ^ 20
-upper_fits z = residue_lt (2 ^ 20) (hi z) (omega arith)
-
-pub all_append : (xs ys : List Instr) → AllInRange xs → AllInRange ys → AllInRange (xs ++ ys)
-all_append [] ys h k = k
-all_append (x ∷ xs) ys h k = (h.0, all_append xs ys h.1 k)
-
-stubs_fit : (top scratch main : ℕ) → AllInRange (stubs top scratch main)
-stubs_fit top scratch main = search (arith, upper_fits, lo_fits)
-
 pub image_has_code : ImageHasCode
 image_has_code main frame code h =
     let bytes = code_bytes code in
     let front = stubs (stack_top frame bytes) (scratch_address bytes) main in
     let same : text_of main frame bytes ≡ code_bytes (front ++ code) ++ [] = sym (code_bytes-append front code) ∙ sym (append-nil (code_bytes (front ++ code))) in
-    stands_in (placed main frame code) (front ++ code) [] [] same refl (all_append front code (stubs_fit (stack_top frame bytes) (scratch_address bytes) main) h)
+    stands_in (placed main frame code) (front ++ code) [] [] same refl (all_append front code (stubs_encode (stack_top frame bytes) (scratch_address bytes) main) h)

@@ -3,4 +3,5 @@ pub mod SimulationLaws
 pub mod NumberLaws
 pub mod TemplateLaws
 pub mod StubLaws
+pub mod EncodingLaws
 pub mod ImageLaws

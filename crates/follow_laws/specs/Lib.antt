@@ -1,5 +1,6 @@
 pub mod Follows
 pub mod Relation
 pub mod Effects
+pub mod Encodings
 pub mod Images
 pub mod Laws

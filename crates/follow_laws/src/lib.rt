@@ -7,6 +7,7 @@
 #![tactic(auto)]
 
 ghost use Rattle.follow_laws.specs.Effects.{ConstantSets, LoadSets, StoreStores, CallGoes, EnterMakesFrame, LeaveReturns, StartCalls, ExitEnds, PutcharWrites, GetcharReads};
+ghost use Rattle.follow_laws.specs.Encodings.{ConstantEncodes, LoadEncodes, StoreEncodes, CallEncodes, EnterEncodes, LeaveEncodes, StubsEncode};
 ghost use Rattle.follow_laws.specs.Images.{ImageHasSegments, ImageHasCode};
 ghost use Rattle.follow_laws.specs.Laws.{ComesOn, LeadsOn, ComesToLead, ComesToEnd, FollowsBefore, SimulationFollows};
 
@@ -46,4 +47,15 @@ pub fn stubs()
 pub fn images()
     ensures segments { ImageHasSegments }
     ensures code { ImageHasCode }
+{}
+
+/// That the instructions of the templates and the stubs have words.
+pub fn encodings()
+    ensures constant { ConstantEncodes }
+    ensures load { LoadEncodes }
+    ensures store { StoreEncodes }
+    ensures call { CallEncodes }
+    ensures enter { EnterEncodes }
+    ensures leave { LeaveEncodes }
+    ensures stubs { StubsEncode }
 {}

@@ -1,3 +1,5 @@
 pub mod FormLaws
 pub mod ImageLaws
 pub mod TemplateLaws
+pub mod MachineLaws
+pub mod FollowLaws

@@ -71,6 +71,10 @@ pub puts-nil : (at : ℕ) → puts_code at [] ≡ []
 unfolding puts_code
 puts-nil at = refl
 
+pub puts-cons : (at : ℕ) (l : Literal) (ls : List Literal) → puts_code at (l ∷ ls) ≡ putchar_code at (value_of l) ++ puts_code (at + 4 * length (putchar_code at (value_of l))) ls
+unfolding puts_code
+puts-cons at l ls = refl
+
 pub puts-more : (at : ℕ) (ls : List Literal) (l : Literal) → puts_code at (ls ++ l ∷ []) ≡ puts_code at ls ++ putchar_code (at + 4 * length (puts_code at ls)) (value_of l)
 unfolding puts_code
 puts-more at [] l = ap (λ (k : ℕ). putchar_code k (value_of l) ++ []) (omega arith) ∙ append-nil _

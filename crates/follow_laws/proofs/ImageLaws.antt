@@ -80,38 +80,38 @@ stands_in m (i ∷ is) pre post e even h =
 
 -- ---- the headers
 
-eight_bytes : (n : ℕ) → n < 2 ^ 64
+pub eight_bytes : (n : ℕ) → n < 2 ^ 64
     → n % 256 + 256 * (n / 256 ^ 1 % 256 + 256 * (n / 256 ^ 2 % 256 + 256 * (n / 256 ^ 3 % 256 + 256 * (n / 256 ^ 4 % 256 + 256 * (n / 256 ^ 5 % 256 + 256 * (n / 256 ^ 6 % 256 + 256 * (n / 256 ^ 7 % 256 + 256 * 0))))))) ≡ n
 eight_bytes n h = omega arith
 
-text_field : (frame : ℕ) (code rest : List ℕ) → text_size code < 2 ^ 64 → loading.text_size (headers frame code ++ rest) ≡ text_size code
+pub text_field : (frame : ℕ) (code rest : List ℕ) → text_size code < 2 ^ 64 → loading.text_size (headers frame code ++ rest) ≡ text_size code
 unfolding load half word xword elf_header
 text_field frame code rest h = eight_bytes (text_size code) h
 
-stored_field : (frame : ℕ) (code rest : List ℕ) → loading.stored_size (headers frame code ++ rest) ≡ 0
+pub stored_field : (frame : ℕ) (code rest : List ℕ) → loading.stored_size (headers frame code ++ rest) ≡ 0
 unfolding load half word xword elf_header
 stored_field frame code rest = refl
 
-data_field : (frame : ℕ) (code rest : List ℕ) → stack_top frame code - data_address code < 2 ^ 64 → loading.data_size (headers frame code ++ rest) ≡ stack_top frame code - data_address code
+pub data_field : (frame : ℕ) (code rest : List ℕ) → stack_top frame code - data_address code < 2 ^ 64 → loading.data_size (headers frame code ++ rest) ≡ stack_top frame code - data_address code
 unfolding load half word xword elf_header
 data_field frame code rest h = eight_bytes (stack_top frame code - data_address code) h
 
-length-headers : (frame : ℕ) (code : List ℕ) → length (headers frame code) ≡ 176
+pub length-headers : (frame : ℕ) (code : List ℕ) → length (headers frame code) ≡ 176
 unfolding half word xword elf_header
 length-headers frame code = refl
 
 -- ---- the segments
 
-length-text : (main frame : ℕ) (code : List ℕ) → length (text_of main frame code) ≡ text_size code
+pub length-text : (main frame : ℕ) (code : List ℕ) → length (text_of main frame code) ≡ text_size code
 length-text main frame code =
     let front = code_bytes (stubs (stack_top frame code) (scratch_address code) main) in
     omega (arith, length-append front code, length-code_bytes (stubs (stack_top frame code) (scratch_address code) main))
 
 -- what lies in front of the text
-before : ℕ → List ℕ → List ℕ
+pub before : ℕ → List ℕ → List ℕ
 before frame code = headers frame code ++ replicate 3920 0
 
-length-before : (frame : ℕ) (code : List ℕ) → length (before frame code) ≡ 4096
+pub length-before : (frame : ℕ) (code : List ℕ) → length (before frame code) ≡ 4096
 unfolding before
 length-before frame code = omega (arith, length-append (headers frame code) (replicate 3920 0), length-headers frame code, length-replicate {A = ℕ} 3920 0)
 
@@ -121,11 +121,11 @@ text_found front text rest k n e f =
     ap (λ j. take n (drop j (front ++ (text ++ rest)))) (sym e) ∙ ap (take n) (drop-append_seam front (text ++ rest))
     ∙ ap (λ j. take j (text ++ rest)) (sym f) ∙ take-append_seam text rest
 
-image_front : (main frame : ℕ) (code : List ℕ) → image_of main frame code ≡ before frame code ++ (text_of main frame code ++ replicate (data_address code - 0x10000 - text_size code) 0)
+pub before_is : (frame : ℕ) (code rest : List ℕ) → headers frame code ++ (replicate 3920 0 ++ rest) ≡ before frame code ++ rest
 unfolding before
-image_front main frame code = sym (append_assoc (headers frame code) (replicate 3920 0) (text_of main frame code ++ replicate (data_address code - 0x10000 - text_size code) 0))
+before_is frame code rest = sym (append_assoc (headers frame code) (replicate 3920 0) rest)
 
-same_start : (n : ℕ) → 0x10000 + (n + 4095) / 4096 * 4096 ≡ (0x10000 + n + 4095) / 4096 * 4096
+pub same_start : (n : ℕ) → 0x10000 + (n + 4095) / 4096 * 4096 ≡ (0x10000 + n + 4095) / 4096 * 4096
 same_start n = omega arith
 
 abbrev segments : List ℕ → ℕ → ℕ → Segments
@@ -143,7 +143,7 @@ image_has_segments main frame code small =
     let room = data_field frame bytes (replicate 3920 0 ++ (text_of main frame bytes ++ replicate (data_address bytes - 0x10000 - text_size bytes) 0)) (omega (arith, small.stack)) in
     let start : loading.data_start image ≡ data_address bytes = ap (λ n. 0x10000 + (n + 4095) / 4096 * 4096) size ∙ same_start (text_size bytes) in
     let text : loading.text_of image ≡ text_of main frame bytes =
-    ap (λ n. take n (drop 4096 image)) size ∙ ap (λ (l : List ℕ). take (text_size bytes) (drop 4096 l)) (image_front main frame bytes)
+    ap (λ n. take n (drop 4096 image)) size ∙ ap (λ (l : List ℕ). take (text_size bytes) (drop 4096 l)) (before_is frame bytes (text_of main frame bytes ++ replicate (data_address bytes - 0x10000 - text_size bytes) 0))
     ∙ text_found (before frame bytes) (text_of main frame bytes) (replicate (data_address bytes - 0x10000 - text_size bytes) 0) 4096 (text_size bytes) (length-before frame bytes) (length-text main frame bytes) in
     let end : loading.data_start image + loading.data_size image ≡ stack_top frame bytes = ap (λ n. n + loading.data_size image) start ∙ ap (λ n. data_address bytes + n) room ∙ omega arith in
     segments_at _ _ _ _ _ _ text start end

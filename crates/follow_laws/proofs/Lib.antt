@@ -5,3 +5,4 @@ pub mod TemplateLaws
 pub mod StubLaws
 pub mod EncodingLaws
 pub mod ImageLaws
+pub mod LoadableLaws

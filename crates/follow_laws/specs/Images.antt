@@ -1,8 +1,8 @@
 -- An image that is built of code: the machine finds its segments, its stubs and its code in it.
-use Rattle.std.specs.Prelude.{◌≡◌, ℕ, ◌+◌, ◌-◌, ◌*◌, ◌^◌, ◌≤◌, List, ◌++◌, length}
+use Rattle.std.specs.Prelude.{◌≡◌, ℕ, ◌+◌, ◌-◌, ◌*◌, ◌^◌, ◌≤◌, List, ◌++◌, length, None}
 use Rattle.rv64_isa.specs.declared.instr.Instr.{Instr}
 use Rattle.rv64_meaning.specs.Machine.{Segments}
-use Rattle.rv64_meaning.specs.Loading.{segments_of}
+use Rattle.rv64_meaning.specs.Loading.{segments_of, load_fault_of}
 use Rattle.final_link.specs.Stubs.{start_address, stubs}
 use Rattle.final_link.specs.Image.{AllInRange, code_bytes, text_of, text_size, data_address, scratch_address, stack_top, image_of}
 use Rattle.follow_laws.specs.Relation.{StandsAt}
@@ -25,3 +25,7 @@ abbrev pub ImageHasCode : Type 0
 ImageHasCode =
     (main frame : ℕ) (code : List Instr) → AllInRange code
     → StandsAt (placed main frame code) start_address (stubs (stack_top frame (code_bytes code)) (scratch_address (code_bytes code)) main ++ code)
+
+-- it has the form of an image that can be loaded
+abbrev pub ImageLoads : Type 0
+ImageLoads = (main frame : ℕ) (code : List Instr) → IsSmall frame code → load_fault_of (image_of main frame (code_bytes code)) ≡ None

@@ -8,7 +8,7 @@
 
 ghost use Rattle.follow_laws.specs.Effects.{ConstantSets, LoadSets, StoreStores, CallGoes, EnterMakesFrame, LeaveReturns, StartCalls, ExitEnds, PutcharWrites, GetcharReads};
 ghost use Rattle.follow_laws.specs.Encodings.{ConstantEncodes, LoadEncodes, StoreEncodes, CallEncodes, EnterEncodes, LeaveEncodes, StubsEncode};
-ghost use Rattle.follow_laws.specs.Images.{ImageHasSegments, ImageHasCode};
+ghost use Rattle.follow_laws.specs.Images.{ImageLoads, ImageHasSegments, ImageHasCode};
 ghost use Rattle.follow_laws.specs.Laws.{ComesOn, LeadsOn, ComesToLead, ComesToEnd, FollowsBefore, SimulationFollows};
 
 /// How the machine's ways from state to state are joined.
@@ -45,6 +45,7 @@ pub fn stubs()
 
 /// What the machine finds in an image.
 pub fn images()
+    ensures loads { ImageLoads }
     ensures segments { ImageHasSegments }
     ensures code { ImageHasCode }
 {}

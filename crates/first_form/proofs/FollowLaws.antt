@@ -28,11 +28,12 @@ use Rattle.follow_laws.proofs.WayLaws.{comes_of, follows_before, stands_front, s
 use Rattle.follow_laws.proofs.SimulationLaws.{Moves, Works, Rests, Answers, Simulates, simulation_follows}
 use Rattle.follow_laws.proofs.EncodingLaws.{all_append, constant_encodes, call_encodes, enter_encodes, leave_encodes}
 use Rattle.follow_laws.proofs.ImageLaws.{length-code_bytes, image_has_segments, image_has_code}
+use Rattle.follow_laws.proofs.LoadableLaws.{image_loads}
 use Rattle.first_form.specs.declared.form.FirstForm.{FirstForm}
 use Rattle.first_form.specs.declared.form.Literal.{Literal}
 use Rattle.first_form.specs.declared.form.TheConstants.{MOST_CALLS}
 use Rattle.first_form.specs.Form.{IsInt, value_of, operand_of, main_of, putchar_code, main_code}
-use Rattle.first_form.specs.Source.{putchar_of, statements_of, function_of, program_of, FirstFormFollows}
+use Rattle.first_form.specs.Source.{putchar_of, statements_of, function_of, program_of, FirstFormLoads, FirstFormFollows}
 use Rattle.first_form.proofs.TemplateLaws.{constant-short, constant-long, enter-is, leave-is, int-signed, frame-is, puts_code, puts-nil, puts-cons, main-is}
 use Rattle.first_form.proofs.MachineLaws.{Surrounds, Between, put_runs_at, start_runs, leave_runs_at}
 
@@ -244,3 +245,8 @@ first_form_follows form all status few input in_bytes =
     subst (λ x. RunFollows (λ n. exec x n s) (run (source_of (program_of form)) (Running (at_place input 0 [])))) (sym (image_has_segments functions_address frame code (small_image frame code sixteen short)))
     (follows_before m s started.state (run (source_of (program_of form)) (Running (at_place input 0 []))) (comes_of m s started.state started.leads)
     (simulation_follows m (source_of (program_of form)) (Related form input m scratch top w ending status) (simulates form input m scratch top w ending status) 0 (at_place input 0 []) started.state related))
+
+pub first_form_loads : FirstFormLoads
+first_form_loads form all status few =
+    let code = main_code form in
+    image_loads functions_address (frame_size (main_of form)) code (small_image (frame_size (main_of form)) code (frame-is form) (code_length form all status few))

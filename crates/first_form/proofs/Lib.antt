@@ -3,3 +3,4 @@ pub mod ImageLaws
 pub mod TemplateLaws
 pub mod MachineLaws
 pub mod FollowLaws
+pub mod SpellingLaws

@@ -1,5 +1,6 @@
 -- The instructions of the templates have registers and immediates in range, so each has a word.
-use Rattle.std.specs.Prelude.{ℕ, ◌^◌, ◌<◌, ℤ}
+use Rattle.std.specs.Prelude.{ℕ, ℤ, List, ◌++◌}
+use Rattle.rv64_isa.specs.declared.instr.Instr.{Instr}
 use Rattle.rv64_abi.specs.Offsets.{call}
 use Rattle.rv64_isa.specs.Format.{IsRegister}
 use Rattle.rv64_select.specs.Templates.{constant, load_slot, store_slot}
@@ -27,3 +28,6 @@ LeaveEncodes = (size slot : ℕ) → AllInRange (leave_code size slot)
 
 abbrev pub StubsEncode : Type 0
 StubsEncode = (top scratch main : ℕ) → AllInRange (stubs top scratch main)
+
+abbrev pub BothEncode : Type 0
+BothEncode = (front back : List Instr) → AllInRange front → AllInRange back → AllInRange (front ++ back)

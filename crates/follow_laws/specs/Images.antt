@@ -29,3 +29,7 @@ ImageHasCode =
 -- it has the form of an image that can be loaded
 abbrev pub ImageLoads : Type 0
 ImageLoads = (main frame : ℕ) (code : List Instr) → IsSmall frame code → load_fault_of (image_of main frame (code_bytes code)) ≡ None
+
+-- each instruction has 4 bytes
+abbrev pub CodeHasWords : Type 0
+CodeHasWords = (code : List Instr) → length (code_bytes code) ≡ 4 * length code

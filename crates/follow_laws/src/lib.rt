@@ -7,16 +7,21 @@
 #![tactic(auto)]
 
 ghost use Rattle.follow_laws.specs.Effects.{ConstantSets, LoadSets, StoreStores, CallGoes, EnterMakesFrame, LeaveReturns, StartCalls, ExitEnds, PutcharWrites, GetcharReads};
-ghost use Rattle.follow_laws.specs.Encodings.{ConstantEncodes, LoadEncodes, StoreEncodes, CallEncodes, EnterEncodes, LeaveEncodes, StubsEncode};
-ghost use Rattle.follow_laws.specs.Images.{ImageLoads, ImageHasSegments, ImageHasCode};
-ghost use Rattle.follow_laws.specs.Laws.{ComesOn, LeadsOn, ComesToLead, ComesToEnd, FollowsBefore, SimulationFollows};
+ghost use Rattle.follow_laws.specs.Encodings.{ConstantEncodes, LoadEncodes, StoreEncodes, CallEncodes, EnterEncodes, LeaveEncodes, StubsEncode, BothEncode};
+ghost use Rattle.follow_laws.specs.Images.{ImageLoads, ImageHasSegments, ImageHasCode, CodeHasWords};
+ghost use Rattle.follow_laws.specs.Laws.{ComesOn, LeadsOn, LeadsTwice, LeadsComes, ComesToLead, ComesToEnd, InstructionLeads, FrontStands, BackStands, FollowsBefore, SimulationFollows};
 
-/// How the machine's ways from state to state are joined.
+/// How the machine's ways from state to state are joined, and instructions that stand one after the other are parted.
 pub fn ways()
     ensures comes { ComesOn }
     ensures leads { LeadsOn }
+    ensures twice { LeadsTwice }
+    ensures leads_comes { LeadsComes }
     ensures comes_to_lead { ComesToLead }
     ensures comes_to_end { ComesToEnd }
+    ensures instruction { InstructionLeads }
+    ensures front { FrontStands }
+    ensures back { BackStands }
     ensures before { FollowsBefore }
 {}
 
@@ -48,6 +53,7 @@ pub fn images()
     ensures loads { ImageLoads }
     ensures segments { ImageHasSegments }
     ensures code { ImageHasCode }
+    ensures words { CodeHasWords }
 {}
 
 /// That the instructions of the templates and the stubs have words.
@@ -59,4 +65,5 @@ pub fn encodings()
     ensures enter { EnterEncodes }
     ensures leave { LeaveEncodes }
     ensures stubs { StubsEncode }
+    ensures both { BothEncode }
 {}

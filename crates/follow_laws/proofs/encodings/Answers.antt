@@ -1,4 +1,4 @@
-use Rattle.follow_laws.proofs.EncodingLaws.{constant_encodes, load_encodes, store_encodes, call_encodes, enter_encodes, leave_encodes, stubs_encode}
+use Rattle.follow_laws.proofs.EncodingLaws.{all_append, constant_encodes, load_encodes, store_encodes, call_encodes, enter_encodes, leave_encodes, stubs_encode}
 use Rattle.follow_laws.proofs.encodings.Goals as goal
 
 pub returns : goal.returns
@@ -10,4 +10,5 @@ returns c = record {
   enter = enter_encodes;
   leave = leave_encodes;
   stubs = stubs_encode;
+  both = all_append;
 }

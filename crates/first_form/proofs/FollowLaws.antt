@@ -1,5 +1,5 @@
 -- The image of a program of the first form follows the program.
-use Rattle.std.proofs.Common.{◌≡◌, ℕ, zero, suc, ◌+◌, ◌-◌, ◌*◌, ◌/◌, ◌%◌, ◌^◌, ◌<◌, ◌≤◌, ℤ, pos, Bool, true, false, List, [], ◌∷◌, ◌++◌, length, Some, refl, sym, ap, ◌∙◌, subst, arith, append_assoc, append-nil, length-append, lit<}
+use Rattle.std.proofs.Common.{◌≡◌, ℕ, ◌+◌, ◌-◌, ◌*◌, ◌%◌, ◌^◌, ◌<◌, ◌≤◌, ℤ, pos, Bool, true, false, List, [], ◌∷◌, ◌++◌, length, Some, refl, sym, ap, ◌∙◌, subst, arith, append_assoc, length-append, lit<}
 use Rattle.std.specs.Prelude.{map, All, slice_get}
 use Rattle.std.proofs.lemmas.List.Elements.{All-head, All-tail}
 use Rattle.rv64_isa.specs.declared.instr.Instr.{Instr}
@@ -7,22 +7,22 @@ use Rattle.rv64_isa.specs.declared.instr.Instr.TheVariants.{Addi, Ecall}
 use Rattle.rv64_isa.specs.Format.{IsSigned}
 use Rattle.rv64_meaning.specs.Machine.{Segments, exec}
 use Rattle.rv64_meaning.specs.Machine as hart
-use Rattle.rv64_meaning.specs.Loading.{segments_of, start_of}
+use Rattle.rv64_meaning.specs.Loading.{start_of}
 use Rattle.gimple_ir.specs.declared.types.Statement.{Statement}
-use Rattle.gimple_ir.specs.declared.types.Statement.TheVariants.{Putchar, Return}
+use Rattle.gimple_ir.specs.declared.types.Statement.TheVariants.{Return}
 use Rattle.gimple_meaning.specs.Acts.{low_byte}
 use Rattle.gimple_meaning.specs.Systems.{Machine, State, Running, Ended, Undefined, step, applied}
 use Rattle.gimple_meaning.specs.Source.{source_of, effect_in}
 use Rattle.gimple_meaning.specs.Run.{run}
-use Rattle.rv64_select.specs.Templates.{constant, long_constant, is_signed_in}
+use Rattle.rv64_select.specs.Templates.{constant, is_signed_in}
 use Rattle.rv64_select.specs.Code.{enter_code, leave_code}
 use Rattle.rv64_abi.specs.Offsets.{call}
 use Rattle.rv64_abi.specs.Registers.{a0}
 use Rattle.rv64_frame.specs.Frames.{frame_size}
 use Rattle.final_link.specs.Stubs.{functions_address, putchar_address, start_stub, putchar_stub, getchar_stub, stubs}
-use Rattle.final_link.specs.Image.{AllInRange, code_bytes, data_address, scratch_address, stack_top, image_of}
+use Rattle.final_link.specs.Image.{AllInRange, code_bytes, scratch_address, stack_top, image_of}
 use Rattle.follow_laws.specs.Follows.{RunFollows}
-use Rattle.follow_laws.specs.Relation.{StandsAt, ComesTo}
+use Rattle.follow_laws.specs.Relation.{StandsAt}
 use Rattle.follow_laws.specs.Images.{placed, IsSmall}
 use Rattle.follow_laws.proofs.WayLaws.{comes_of, follows_before, stands_front, stands_back}
 use Rattle.follow_laws.proofs.SimulationLaws.{Moves, Works, Rests, Answers, Simulates, simulation_follows}
@@ -146,6 +146,7 @@ module _ (form : FirstForm) (input : List ℕ) (m : Segments) (scratch top : ℕ
       moves_any : (rank : ℕ) (q : Machine) → Moves m Related 0 q s → Moves m Related rank q s
       moves_any rank q (Works new t l x) = Works new t l x
       moves_any rank q (Rests new t l x low) = absurd (omega (arith, low))
+
       any_rank : (rank : ℕ) (x : State) → Answers m Related 0 x s → Answers m Related rank x s
       any_rank rank (Running q) a = moves_any rank q a
       any_rank rank (Ended q code) a = a

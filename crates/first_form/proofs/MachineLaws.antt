@@ -1,12 +1,9 @@
 -- What the machine does at each part of `main` of the first form.
 use Rattle.std.proofs.Common.{◌≡◌, ℕ, ◌+◌, ◌-◌, ◌*◌, ◌%◌, ◌^◌, ◌<◌, ◌≤◌, ℤ, pos, negsuc, true, List, [], ◌∷◌, ◌++◌, length, inr, refl, sym, ap, ◌∙◌, subst, arith, length-append, lit<}
-use Rattle.std.specs.Prelude.{unsigned_abs}
-use Rattle.std.specs.Int.{int_rem_euclid}
 use Rattle.std.proofs.lemmas.Int.{ints}
 use Rattle.std.proofs.lemmas.Bool.{and_from, or_right, le-leb, eq-eqb}
 use Rattle.std.proofs.lemmas.Bool.Decides.{nat_tests}
 use Rattle.std.proofs.Math.Nat.{mod-one}
-use Rattle.rv64_isa.specs.declared.instr.Instr.{Instr}
 use Rattle.rv64_isa.specs.declared.instr.Instr.TheVariants.{Addi, Ecall}
 use Rattle.rv64_isa.specs.Format.{IsSigned}
 use Rattle.rv64_meaning.specs.Arithmetic.{bits64}
@@ -17,9 +14,9 @@ use Rattle.rv64_abi.specs.Offsets.{call}
 use Rattle.rv64_select.specs.Templates.{constant}
 use Rattle.rv64_select.specs.Code.{enter_code, leave_code}
 use Rattle.final_link.specs.Stubs.{putchar_address, start_stub, putchar_stub}
-use Rattle.follow_laws.specs.Relation.{StandsAt, Leads, ComesTo, EndsWith}
+use Rattle.follow_laws.specs.Relation.{StandsAt, ComesTo, EndsWith}
 use Rattle.follow_laws.specs.Effects.{with_register, called}
-use Rattle.follow_laws.proofs.WayLaws.{leads_twice, reach_on, comes_to_end, comes_of, stands_front, stands_back}
+use Rattle.follow_laws.proofs.WayLaws.{leads_twice, comes_to_end, comes_of, stands_front, stands_back}
 use Rattle.follow_laws.proofs.TemplateLaws.{constant_sets, call_goes, enter_makes_frame, leave_returns}
 use Rattle.follow_laws.proofs.StubLaws.{start_calls, exit_ends, putchar_writes}
 use Rattle.first_form.specs.Form.{putchar_code}

@@ -1,5 +1,5 @@
 -- A text spells one program of the first form at most.
-use Rattle.std.proofs.Common.{◌≡◌, ℕ, List, [], ◌∷◌, ◌++◌, refl, sym, ap, ap₂, ◌∙◌, append_assoc}
+use Rattle.std.proofs.Common.{◌≡◌, List, [], ◌∷◌, ◌++◌, refl, sym, ap, ap₂, ◌∙◌, append_assoc}
 use Rattle.std.specs.List.{flat_map}
 use Rattle.std.proofs.lemmas.List.{append_cancel_left}
 use Rattle.gimple_syntax.specs.declared.token.Mark.TheVariants.{Semicolon, CloseRound, CloseCurly}
@@ -7,7 +7,7 @@ use Rattle.gimple_syntax.specs.Tokens.{Lexeme, Sign, End}
 use Rattle.first_form.specs.declared.form.FirstForm.{FirstForm}
 use Rattle.first_form.specs.declared.form.Literal.{Literal}
 use Rattle.first_form.specs.declared.form.Literal.TheVariants.{Plain, Negated}
-use Rattle.first_form.specs.Form.{literal_tokens, opening, call_tokens, closing_tokens, form_tokens, Spells}
+use Rattle.first_form.specs.Form.{literal_tokens, opening, call_tokens, closing_tokens, form_tokens}
 use Rattle.first_form.specs.Source.{SpellsOnce}
 
 -- the first literal of equal tokens, and what is behind it
@@ -41,7 +41,7 @@ calls_same [] (b ∷ ks) s t e = cc
 calls_same (a ∷ ls) [] s t e = cc
 calls_same (a ∷ ls) (b ∷ ks) s t e =
     let front = call_same a b (flat_map call_tokens ls ++ closing_tokens s) (flat_map call_tokens ks ++ closing_tokens t)
-        (sym (append_assoc (call_tokens a) (flat_map call_tokens ls) (closing_tokens s)) ∙ e ∙ append_assoc (call_tokens b) (flat_map call_tokens ks) (closing_tokens t)) in
+    (sym (append_assoc (call_tokens a) (flat_map call_tokens ls) (closing_tokens s)) ∙ e ∙ append_assoc (call_tokens b) (flat_map call_tokens ks) (closing_tokens t)) in
     let more = calls_same ls ks s t front.1 in
     (ap₂ (λ (x : Literal) (xs : List Literal). x ∷ xs) front.0 more.0, more.1)
 

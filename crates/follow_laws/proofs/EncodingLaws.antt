@@ -5,13 +5,11 @@ use Rattle.std.proofs.lemmas.Int.{ints}
 use Rattle.std.proofs.lemmas.Bool.Decides.{nat_tests}
 use borrow.Author.Tests.{leb-true}
 use Rattle.rv64_isa.specs.declared.instr.Instr.{Instr}
-use Rattle.rv64_isa.specs.declared.instr.Instr.TheVariants.{Lui, Ld, Sd, Addi, Addiw, Add, Slli, Jalr}
+use Rattle.rv64_isa.specs.declared.instr.Instr.TheVariants.{Ld, Sd, Addi, Add, Slli, Jalr}
 use Rattle.rv64_isa.specs.Format.{residue, IsSigned, IsRegister}
 use Rattle.rv64_isa.proofs.FormatLaws.{residue_lt}
-use Rattle.rv64_abi.specs.Offsets.{hi, lo, upper_of, call}
-use Rattle.rv64_select.specs.Templates.{is_signed_in, long_constant, constant_in, constant, load_slot, store_slot}
-use Rattle.rv64_select.specs.Code.{enter_code, leave_code}
-use Rattle.final_link.specs.Stubs.{stubs}
+use Rattle.rv64_abi.specs.Offsets.{hi, lo}
+use Rattle.rv64_select.specs.Templates.{is_signed_in, long_constant, constant_in, constant, load_slot}
 use Rattle.final_link.specs.Image.{AllInRange}
 use Rattle.follow_laws.specs.Encodings.{ConstantEncodes, LoadEncodes, StoreEncodes, CallEncodes, EnterEncodes, LeaveEncodes, StubsEncode}
 use Rattle.follow_laws.proofs.NumberLaws.{signed_by, signed_12}

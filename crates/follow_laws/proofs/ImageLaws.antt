@@ -1,26 +1,21 @@
 -- What the machine finds in an image that is built of code.
-use Rattle.std.proofs.Common.{◌≡◌, ℕ, zero, suc, ◌+◌, ◌-◌, ◌*◌, ◌/◌, ◌%◌, ◌^◌, ◌<◌, ◌≤◌, ℤ, pos, negsuc, true, List, [], ◌∷◌, ◌++◌, length, take, drop, Some, refl, sym, ap, ◌∙◌, subst, arith, append_assoc, append-nil, length-append}
+use Rattle.std.proofs.Common.{◌≡◌, ℕ, ◌+◌, ◌-◌, ◌*◌, ◌/◌, ◌%◌, ◌^◌, ◌<◌, ◌≤◌, true, List, [], ◌∷◌, ◌++◌, length, take, drop, Some, refl, sym, ap, ◌∙◌, subst, arith, append_assoc, append-nil, length-append}
 use Rattle.std.specs.Prelude.{slice_index, replicate}
 use Rattle.std.proofs.Math.Seq.{drop-append_seam, take-append_seam}
 use Rattle.std.proofs.lemmas.List.{length-replicate}
 use Rattle.std.proofs.lemmas.Bool.{and_from, le-leb}
 use Rattle.rv64_isa.specs.declared.instr.Instr.{Instr}
-use Rattle.std.proofs.lemmas.Int.{ints}
-use Rattle.std.proofs.lemmas.Bool.Decides.{nat_tests}
-use Rattle.rv64_isa.specs.Format.{residue, IsSigned}
-use Rattle.rv64_isa.proofs.FormatLaws.{residue_lt}
 use Rattle.rv64_isa.specs.Words.{InRange, word_of, instr_of}
 use Rattle.rv64_isa.proofs.WordLaws.{word_of_lt, instr_of-word_of}
 use Rattle.rv64_meaning.specs.Machine.{Segments, load, in_text, fetch}
 use Rattle.rv64_meaning.specs.Bytes.{number_of}
 use Rattle.rv64_meaning.specs.Loading as loading
 use Rattle.rv64_meaning.proofs.ByteLaws.{fetch_here, word_in_text}
-use Rattle.rv64_abi.specs.Offsets.{hi, lo}
 use Rattle.final_link.specs.Stubs.{stubs}
 use Rattle.final_link.specs.Image.{word_bytes, code_bytes, AllInRange, half, word, xword, elf_header, headers, text_size, data_address, scratch_address, stack_top, text_of, image_of}
 use Rattle.follow_laws.specs.Relation.{StandsAt}
 use Rattle.follow_laws.proofs.EncodingLaws.{all_append, stubs_encode}
-use Rattle.follow_laws.specs.Images.{placed, IsSmall, ImageHasSegments, ImageHasCode}
+use Rattle.follow_laws.specs.Images.{placed, ImageHasSegments, ImageHasCode}
 
 -- ---- bytes of code
 
@@ -72,8 +67,7 @@ stands_in m (i ∷ is) pre post e even h =
     let here = e ∙ ap (λ (l : List ℕ). pre ++ l) (ap (λ (l : List ℕ). l ++ post) (code_bytes-cons i is) ∙ append_assoc (word_bytes i) (code_bytes is) post) in
     let len = length-append pre (word_bytes i) in
     let four = length-word_bytes i in
-    let place : 0x10000 + length (pre ++ word_bytes i) ≡ 0x10000 + length pre + 4 = omega (arith, len, four) in
-    (
+    let place : 0x10000 + length (pre ++ word_bytes i) ≡ 0x10000 + length pre + 4 = omega (arith, len, four) in (
       fetched m i pre (code_bytes is ++ post) here even h.0,
       subst (λ n. StandsAt m n is) place (stands_in m is (pre ++ word_bytes i) post (here ∙ sym (append_assoc pre (word_bytes i) (code_bytes is ++ post))) (omega (arith, len, four, even)) h.1),
     )

@@ -1,18 +1,17 @@
 -- An image that is built of code can be loaded: each field of its headers is as stated, what lies between its parts is zero, and it
 -- is as long as the headers say.
-use Rattle.std.proofs.Common.{◌≡◌, ℕ, zero, suc, ◌+◌, ◌-◌, ◌*◌, ◌/◌, ◌%◌, ◌^◌, ◌<◌, ◌≤◌, Bool, true, false, cond, List, [], ◌∷◌, ◌++◌, length, take, drop, Option, Some, None, refl, sym, ap, ◌∙◌, subst, arith, append_assoc, append-nil, length-append}
+use Rattle.std.proofs.Common.{◌≡◌, ℕ, zero, suc, ◌+◌, ◌-◌, ◌*◌, ◌/◌, ◌%◌, ◌^◌, ◌<◌, ◌≤◌, true, false, cond, List, [], ◌∷◌, ◌++◌, length, take, drop, Some, None, refl, sym, ap, ◌∙◌, arith, append_assoc, append-nil, length-append}
 use Rattle.std.specs.Prelude.{replicate, not, ◌==◌, ◌&&◌, nat_le, nat_lt}
 use Rattle.std.specs.List.{find, position, prefix_len}
-use Rattle.std.proofs.Math.Seq.{drop-append_seam, take-append_seam, take-length}
+use Rattle.std.proofs.Math.Seq.{drop-append_seam, take-append_seam}
 use Rattle.std.proofs.lemmas.List.{length-replicate}
 use Rattle.std.proofs.lemmas.Bool.{and_from, le-leb, le-ltb, eq-eqb, cond-false}
 use Rattle.std.specs.Option.{option_map, option_or}
-use Rattle.rv64_isa.specs.declared.instr.Instr.{Instr}
 use Rattle.rv64_meaning.specs.Machine.{load}
 use Rattle.rv64_meaning.specs.Loading.{Field, number_at, identification, file_header, text_header, data_header, first_wrong, first_nonzero, load_fault_of}
 use Rattle.rv64_meaning.specs.Loading as loading
-use Rattle.final_link.specs.Image.{code_bytes, half, word, xword, elf_header, headers, text_size, data_address, stack_top, text_of, image_of}
-use Rattle.follow_laws.specs.Images.{IsSmall, ImageLoads}
+use Rattle.final_link.specs.Image.{code_bytes, half, word, xword, elf_header, headers, text_size, data_address, stack_top, text_of}
+use Rattle.follow_laws.specs.Images.{ImageLoads}
 use Rattle.follow_laws.proofs.ImageLaws.{length-code_bytes, eight_bytes, text_field, stored_field, data_field, length-headers, length-text, length-before, before, before_is, same_start}
 
 -- ---- fields

@@ -1,12 +1,11 @@
 -- Upper and lower parts put together.
-use Rattle.std.proofs.Common.{◌≡◌, ℕ, suc, ◌+◌, ◌-◌, ◌*◌, ◌%◌, ◌^◌, ◌<◌, ◌≤◌, ℤ, pos, negsuc, ◌-ℤ◌, ◌<ℤ◌, ◌≤ℤ◌, Bool, true, false, inl, inr, sym, ap, ◌∙◌, arith}
-use Rattle.std.specs.Prelude.{neg_ℤ}
+use Rattle.std.proofs.Common.{◌≡◌, ℕ, suc, ◌+◌, ◌-◌, ◌*◌, ◌%◌, ◌^◌, ◌<◌, ℤ, pos, negsuc, ◌-ℤ◌, ◌<ℤ◌, true, inl, inr, sym, ap, ◌∙◌, arith}
 use Rattle.std.proofs.lemmas.Int.{ints}
 use Rattle.std.proofs.lemmas.Bool.{cases_lt}
 use Rattle.std.proofs.lemmas.Bool.Decides.{nat_tests}
 use borrow.Author.Tests.{ltb-true}
-use Rattle.rv64_isa.specs.Format.{residue, IsSigned}
-use Rattle.rv64_meaning.specs.Arithmetic.{plus, of_word, upper, add, sll, bits64}
+use Rattle.rv64_isa.specs.Format.{IsSigned}
+use Rattle.rv64_meaning.specs.Arithmetic.{plus, of_word, upper, add, bits64}
 use Rattle.rv64_abi.specs.Offsets.{hi, lo, upper_of}
 use Rattle.rv64_select.specs.Templates.{is_signed_in}
 

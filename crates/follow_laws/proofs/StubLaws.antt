@@ -1,16 +1,16 @@
 -- What the stubs do.
-use Rattle.std.proofs.Common.{◌≡◌, ℕ, suc, ◌+◌, ◌-◌, ◌*◌, ◌/◌, ◌%◌, ◌^◌, ◌<◌, ◌≤◌, pos, negsuc, Bool, true, false, cond, List, [], ◌∷◌, ◌++◌, length, refl, sym, ap, ◌∙◌, subst, arith}
-use Rattle.std.specs.Prelude.{◌==◌, ◌||◌, min, take, drop, slice_index}
+use Rattle.std.proofs.Common.{◌≡◌, ℕ, ◌+◌, ◌-◌, ◌*◌, ◌/◌, ◌%◌, ◌^◌, ◌<◌, pos, negsuc, true, List, [], ◌∷◌, ◌++◌, length, refl, sym, ap, ◌∙◌, subst, arith}
+use Rattle.std.specs.Prelude.{min, take, drop, slice_index}
 use Rattle.std.proofs.lemmas.Bool.{cond-true, and_parts, and_from, or_right, le-leb, lt-ltb}
 use Rattle.rv64_isa.specs.declared.instr.Instr.TheVariants.{Lui, Jalr, Beq, Lbu, Sb, Addi, Ecall}
 use Rattle.rv64_meaning.specs.Arithmetic.{plus, upper}
-use Rattle.rv64_meaning.specs.Machine.{Segments, State, Go, End, Trap, At, EndedWith, set_at, load, store, store_bytes, bytes_from, in_text, in_data, can_load, can_store, put, goto, load_to, store_from, read_input, write_output, effect, step, follow, after}
+use Rattle.rv64_meaning.specs.Machine.{Segments, State, Go, Trap, set_at, load, store, store_bytes, bytes_from, in_text, in_data, can_load, can_store, put, goto, load_to, store_from, read_input, effect, step, follow, after}
 use Rattle.rv64_meaning.proofs.MemoryLaws.{bytes_from_one, byte_same}
 use Rattle.rv64_abi.specs.Offsets.{lo, upper_of, call}
-use Rattle.final_link.specs.Stubs.{start_stub, putchar_stub, getchar_stub}
-use Rattle.follow_laws.specs.Relation.{StandsAt, Leads, ComesTo, EndsWith}
-use Rattle.follow_laws.specs.Effects.{Started, AfterPutchar, AfterGetchar, next_byte, called, StartCalls, ExitEnds, PutcharWrites, GetcharReads}
-use Rattle.follow_laws.proofs.WayLaws.{one, then, leads_as, leads_twice, stands_front, stands_back}
+use Rattle.final_link.specs.Stubs.{start_stub, getchar_stub}
+use Rattle.follow_laws.specs.Relation.{StandsAt, ComesTo}
+use Rattle.follow_laws.specs.Effects.{AfterGetchar, next_byte, called, StartCalls, ExitEnds, PutcharWrites, GetcharReads}
+use Rattle.follow_laws.proofs.WayLaws.{one, then, stands_front}
 use Rattle.follow_laws.proofs.NumberLaws.{address_parts}
 use Rattle.follow_laws.proofs.TemplateLaws.{call_goes}
 

@@ -7,12 +7,11 @@ use Rattle.rv64_isa.specs.declared.instr.Instr.{Instr}
 use Rattle.rv64_isa.specs.declared.instr.Instr.TheVariants.{Lui, Auipc, Jalr, Ld, Sd, Addi, Addiw, Add, Slli}
 use Rattle.rv64_isa.specs.Format.{IsSigned}
 use Rattle.rv64_meaning.specs.Arithmetic.{plus, of_word, upper, add, bits64}
-use Rattle.rv64_meaning.specs.Machine.{Segments, State, Next, Go, Trap, read_reg, set_at, load, store, can_load, can_store, put, goto, load_to, store_from, effect}
-use Rattle.rv64_abi.specs.Offsets.{hi, lo, upper_of, call}
+use Rattle.rv64_meaning.specs.Machine.{Segments, State, Go, Trap, read_reg, set_at, load, store, can_load, can_store, put, goto, load_to, store_from}
+use Rattle.rv64_abi.specs.Offsets.{hi, lo, upper_of}
 use Rattle.rv64_select.specs.Templates.{is_signed_in, long_constant, constant_in, constant, load_slot, store_slot}
-use Rattle.rv64_select.specs.Code.{enter_code, leave_code}
 use Rattle.follow_laws.specs.Relation.{StandsAt, Leads, ComesTo}
-use Rattle.follow_laws.specs.Effects.{Differ, with_register, Stored, called, Entered, Returned, ConstantSets, LoadSets, StoreStores, CallGoes, EnterMakesFrame, LeaveReturns}
+use Rattle.follow_laws.specs.Effects.{Differ, with_register, Stored, ConstantSets, LoadSets, StoreStores, CallGoes, EnterMakesFrame, LeaveReturns}
 use Rattle.follow_laws.proofs.WayLaws.{one, then, leads_as, leads_twice, stands_front, stands_back}
 use Rattle.follow_laws.proofs.NumberLaws.{offset_parts, word_parts, shifted_parts, from_zero, distance, signed_32, hi_43, hi_54, hi_64}
 
@@ -71,7 +70,7 @@ constant_by_sets false false m s r c more r_is fits word ih has =
     let f = ap (λ x. Go (put u r (plus x (lo c)))) (read_same t r up r_is) ∙ ap (λ v. Go (put u r v)) (shifted_parts c fits) in
     let place : s.pc + 4 * length more + 4 + 4 ≡ s.pc + 4 * length (more ++ last_two) = omega (arith, length-append more last_two) in
     let same = ap (λ g. record s { reg = g; pc = s.pc + 4 * length more + 4 + 4 }) (set_twice (set_at s.reg r high) r up (bits64 c) ∙ set_twice s.reg r high (bits64 c))
-        ∙ ap (λ p. record s { reg = set_at s.reg r (bits64 c); pc = p }) place in
+    ∙ ap (λ p. record s { reg = set_at s.reg r (bits64 c); pc = p }) place in
     leads_as m s w _ same
     (leads_twice m s t w (ih refl (stands_front m s.pc more last_two has)) (then m t u w (Slli r r (pos 12)) back.0 e (one m u w (Addi r r (lo c)) back.1.0 f)))
 
@@ -138,7 +137,7 @@ load_by false m s r slot r_is apart small fits can code e =
     let address = ap (λ x. plus x (lo (pos slot))) (read_same t r sum r_is) ∙ offset_parts slot (s.reg 2) small fits in
     let place : s.pc + 4 + 4 + 4 ≡ s.pc + 4 * 3 = omega arith in
     let same = ap (λ g. record s { reg = g; pc = s.pc + 4 + 4 + 4 }) (set_twice (set_at s.reg r up) r sum value ∙ set_twice s.reg r up value)
-        ∙ ap (λ p. record s { reg = set_at s.reg r value; pc = p }) place in
+    ∙ ap (λ p. record s { reg = set_at s.reg r value; pc = p }) place in
     subst (λ l. StandsAt m s.pc l → Leads m s (with_register s r value (length l))) e
     (λ has. leads_as m s w _ same
     (then m s t w (Lui r (upper_of (pos slot))) has.0 refl (then m t u w (Add r r 2) has.1.0 added (one m u w (Ld r r (lo (pos slot))) has.1.1.0 (loads m u r _ _ address can)))))

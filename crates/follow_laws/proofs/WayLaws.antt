@@ -1,7 +1,7 @@
 -- The machine's ways from state to state, and what it shows later on them.
-use Rattle.std.proofs.Common.{◌≡◌, ℕ, suc, ◌+◌, ◌-◌, ◌≤◌, List, [], ◌∷◌, ◌++◌, length, Some, refl, sym, ap, ◌∙◌, subst, arith, append_assoc, append-nil, ◌*◌}
+use Rattle.std.proofs.Common.{◌≡◌, ℕ, suc, ◌+◌, ◌-◌, ◌≤◌, List, [], ◌∷◌, ◌++◌, length, Some, refl, ap, ◌∙◌, subst, arith, append_assoc, ◌*◌}
 use Rattle.rv64_isa.specs.declared.instr.Instr.{Instr}
-use Rattle.rv64_meaning.specs.Machine.{Segments, State, Go, Standing, At, EndedWith, Outcome, Running, Ended, Trapped, effect, fetch, step, follow, after, outcome_of, exec}
+use Rattle.rv64_meaning.specs.Machine.{Segments, State, Go, Standing, At, Outcome, Running, Ended, Trapped, effect, fetch, step, follow, after, outcome_of, exec}
 use Rattle.rv64_meaning.specs.Laws.{IsOver, Grows, output_of}
 use Rattle.rv64_meaning.proofs.RunLaws.{after-add, exec_over, exec_grows}
 use Rattle.gimple_meaning.specs.Systems as program

@@ -1,6 +1,5 @@
 -- What the templates of code and the stubs do to the machine, whatever the address, the registers and the memory are.
 use Rattle.std.specs.Prelude.{◌≡◌, ℕ, ◌+◌, ◌-◌, ◌*◌, ◌%◌, ◌^◌, ◌<◌, ◌≤◌, ℤ, pos, true, false, List, [], ◌∷◌, ◌++◌, take, drop, length, ◌==◌}
-use Rattle.rv64_isa.specs.declared.instr.Instr.{Instr}
 use Rattle.rv64_isa.specs.declared.instr.Instr.TheVariants.{Addi, Ecall}
 use Rattle.rv64_isa.specs.Format.{IsSigned}
 use Rattle.rv64_meaning.specs.Arithmetic.{bits64}

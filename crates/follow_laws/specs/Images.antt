@@ -1,10 +1,10 @@
 -- An image that is built of code: the machine finds its segments, its stubs and its code in it.
-use Rattle.std.specs.Prelude.{◌≡◌, ℕ, ◌+◌, ◌-◌, ◌*◌, ◌^◌, ◌≤◌, List, ◌++◌, length, None}
+use Rattle.std.specs.Prelude.{◌≡◌, ℕ, ◌+◌, ◌*◌, ◌^◌, ◌≤◌, List, ◌++◌, length, None}
 use Rattle.rv64_isa.specs.declared.instr.Instr.{Instr}
 use Rattle.rv64_meaning.specs.Machine.{Segments}
 use Rattle.rv64_meaning.specs.Loading.{segments_of, load_fault_of}
 use Rattle.final_link.specs.Stubs.{start_address, stubs}
-use Rattle.final_link.specs.Image.{AllInRange, code_bytes, text_of, text_size, data_address, scratch_address, stack_top, image_of}
+use Rattle.final_link.specs.Image.{AllInRange, code_bytes, text_of, data_address, scratch_address, stack_top, image_of}
 use Rattle.follow_laws.specs.Relation.{StandsAt}
 
 -- the segments of an image with this code and this size of the largest frame

@@ -6,3 +6,4 @@ pub mod StubLaws
 pub mod EncodingLaws
 pub mod ImageLaws
 pub mod LoadableLaws
+pub mod SelectionLaws

@@ -4,3 +4,4 @@ pub mod Effects
 pub mod Encodings
 pub mod Images
 pub mod Laws
+pub mod Selections

@@ -2,14 +2,16 @@
 //! the laws.
 //!
 //! In specs/, `Follows` has the promise, `Relation` what it is for the machine to come from one state to another and for
-//! instructions to stand at a place, `Laws` how ways are joined and why a simulation is enough, and `Effects` what the templates
-//! of code and the stubs do.
+//! instructions to stand at a place, `Laws` how ways are joined and why a simulation is enough, `Effects` what the templates of
+//! code and the stubs do, `Selections` where the code of steps stands and what operands leave, `Encodings` that all of it has
+//! words, and `Images` what the machine finds in an image.
 #![tactic(auto)]
 
 ghost use Rattle.follow_laws.specs.Effects.{ConstantSets, LoadSets, StoreStores, CallGoes, EnterMakesFrame, LeaveReturns, StartCalls, ExitEnds, PutcharWrites, GetcharReads};
 ghost use Rattle.follow_laws.specs.Encodings.{ConstantEncodes, LoadEncodes, StoreEncodes, CallEncodes, EnterEncodes, LeaveEncodes, StubsEncode, BothEncode};
 ghost use Rattle.follow_laws.specs.Images.{ImageLoads, ImageHasSegments, ImageHasCode, CodeHasWords};
 ghost use Rattle.follow_laws.specs.Laws.{ComesOn, LeadsOn, LeadsTwice, LeadsComes, ComesToLead, ComesToEnd, InstructionLeads, FrontStands, BackStands, FollowsBefore, SimulationFollows};
+ghost use Rattle.follow_laws.specs.Selections.{StepsStand, OperandSets, OperandEncodes};
 
 /// How the machine's ways from state to state are joined, and instructions that stand one after the other are parted.
 pub fn ways()
@@ -66,4 +68,11 @@ pub fn encodings()
     ensures leave { LeaveEncodes }
     ensures stubs { StubsEncode }
     ensures both { BothEncode }
+{}
+
+/// Where the code of steps stands, and what the code of operands does.
+pub fn selections()
+    ensures steps { StepsStand }
+    ensures operand { OperandSets }
+    ensures operand_encodes { OperandEncodes }
 {}

@@ -7,3 +7,4 @@ pub mod EncodingLaws
 pub mod ImageLaws
 pub mod LoadableLaws
 pub mod SelectionLaws
+pub mod FrameLaws

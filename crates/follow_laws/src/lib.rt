@@ -3,12 +3,13 @@
 //!
 //! In specs/, `Follows` has the promise, `Relation` what it is for the machine to come from one state to another and for
 //! instructions to stand at a place, `Laws` how ways are joined and why a simulation is enough, `Effects` what the templates of
-//! code and the stubs do, `Selections` where the code of steps stands and what operands leave, `Encodings` that all of it has
+//! code and the stubs do, `Selections` where the code of steps stands and what operands leave, `Frames` how a frame lies in memory, `Encodings` that all of it has
 //! words, and `Images` what the machine finds in an image.
 #![tactic(auto)]
 
 ghost use Rattle.follow_laws.specs.Effects.{ConstantSets, LoadSets, StoreStores, CallGoes, EnterMakesFrame, LeaveReturns, StartCalls, ExitEnds, PutcharWrites, GetcharReads};
 ghost use Rattle.follow_laws.specs.Encodings.{ConstantEncodes, LoadEncodes, StoreEncodes, CallEncodes, EnterEncodes, LeaveEncodes, StubsEncode, BothEncode};
+ghost use Rattle.follow_laws.specs.Frames.{FreshHeld, StoreApart, StoreSets, OperandHeld, DataReached};
 ghost use Rattle.follow_laws.specs.Images.{ImageLoads, ImageHasSegments, ImageHasCode, CodeHasWords};
 ghost use Rattle.follow_laws.specs.Laws.{ComesOn, LeadsOn, LeadsTwice, LeadsComes, ComesToLead, ComesToEnd, InstructionLeads, FrontStands, BackStands, FollowsBefore, SimulationFollows};
 ghost use Rattle.follow_laws.specs.Selections.{StepsStand, OperandSets, OperandEncodes};
@@ -75,4 +76,13 @@ pub fn selections()
     ensures steps { StepsStand }
     ensures operand { OperandSets }
     ensures operand_encodes { OperandEncodes }
+{}
+
+/// What stores leave of a frame in memory, and what operands find in it.
+pub fn frames()
+    ensures fresh { FreshHeld }
+    ensures apart { StoreApart }
+    ensures sets { StoreSets }
+    ensures operand { OperandHeld }
+    ensures reached { DataReached }
 {}

@@ -1,23 +1,18 @@
 -- What is read of a text of the first form is spelled so, and what is spelled so is read.
-use Rattle.std.proofs.Common.{◌≡◌, ℕ, ◌+◌, ◌<◌, ◌≤◌, ◌^◌, Bool, true, false, List, [], ◌∷◌, ◌++◌, length, drop, Option, Some, None, refl, sym, ap, subst, ◌∙◌, inl, inr, arith, append_assoc, length-append}
-use Rattle.std.specs.Prelude.{map, All, option_and_then, if◌then◌else◌, codes, cond, nat_lt, ◌⊎◌, Ok, Err, Result, IsErrOf}
+use Rattle.std.proofs.Common.{◌≡◌, ℕ, ◌+◌, ◌<◌, ◌≤◌, ◌^◌, Bool, true, false, List, [], ◌∷◌, ◌++◌, length, Option, Some, None, refl, sym, ap, subst, ◌∙◌, arith, append_assoc, length-append}
+use Rattle.std.specs.Prelude.{All, option_and_then, codes, cond, nat_lt, Ok, Err, Result, IsErrOf}
 use Rattle.std.specs.Option.{ok_or}
 use Rattle.std.specs.List.{flat_map}
 use Rattle.std.proofs.lemmas.List.{length-map, drop_at, flat_map_more}
 use Rattle.std.proofs.lemmas.List.Elements.{All-push, All-drop, All-head}
-use Rattle.std.proofs.lemmas.Bool.Decides.{nat_tests}
 use Rattle.std.proofs.lemmas.Bool.{lt-ltb, ltb-true}
 use Rattle.std.proofs.lemmas.Slice.Eq.{bytes_eq-Decides}
-use denote.Enum.Bare.{sameb, same_true}
+use denote.Enum.Bare.{same_true}
 use Rattle.gimple_syntax.specs.contracts.token.Keyword.{the_type as keyword}
 use Rattle.gimple_syntax.specs.contracts.token.Mark.{the_type as mark}
-use Rattle.gimple_syntax.specs.declared.token.Keyword.{Keyword}
 use Rattle.gimple_syntax.specs.declared.token.Keyword.TheVariants as words
-use Rattle.gimple_syntax.specs.declared.token.Mark.{Mark}
 use Rattle.gimple_syntax.specs.declared.token.Mark.TheVariants.{Semicolon, Minus, OpenRound, CloseRound, OpenCurly, CloseCurly}
-use Rattle.gimple_syntax.specs.declared.token.Suffix.{Suffix}
 use Rattle.gimple_syntax.specs.declared.token.Suffix.TheVariants as suffix
-use Rattle.gimple_syntax.specs.declared.token.TextKind.{TextKind}
 use Rattle.gimple_syntax.specs.Tokens.{Lexeme, Name, Word, Number, Sign, End, Bad, Placed, tokens_of, placed}
 use Rattle.gimple_syntax.specs.Reading.{head_of, same, passed, number_below, read_number, with_rest, Gives, Passes}
 use Rattle.first_form.specs.declared.form.FirstForm.{FirstForm}

@@ -1,10 +1,8 @@
 -- The bytes of instructions behind one another, and how many there are.
-use Rattle.std.proofs.Common.{◌≡◌, ℕ, zero, suc, ◌+◌, ◌*◌, ◌<◌, ◌≤◌, List, [], ◌∷◌, ◌++◌, length, get_or, take, refl, sym, ap, ap₂, ◌∙◌, arith, append_assoc, length-append}
-use Rattle.std.specs.List.{flat_map}
-use Rattle.std.specs.Int.{w32, to_le_bytes}
+use Rattle.std.proofs.Common.{◌≡◌, ℕ, zero, suc, ◌+◌, ◌*◌, ◌<◌, List, [], ◌∷◌, ◌++◌, length, get_or, take, refl, sym, ap, ap₂, ◌∙◌, arith, append_assoc, length-append}
 use Rattle.std.proofs.lemmas.List.{take_more, append-nil}
 use Rattle.rv64_isa.specs.declared.instr.Instr.{Instr}
-use Rattle.rv64_isa.specs.Words.{InRange, word_of}
+use Rattle.rv64_isa.specs.Words.{InRange}
 use Rattle.final_link.specs.Image.{word_bytes, code_bytes, AllInRange, text_size, data_address, scratch_address, stack_top, headers, image_of}
 use Rattle.final_link.specs.Stubs.{start_address, stubs}
 use Rattle.std.specs.Prelude.{replicate, ◌-◌}

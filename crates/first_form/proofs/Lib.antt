@@ -1,3 +1,6 @@
 pub mod FormLaws
 pub mod ImageLaws
 pub mod TemplateLaws
+pub mod MachineLaws
+pub mod FollowLaws
+pub mod SpellingLaws

@@ -1,7 +1,7 @@
 -- Templates of a `main` without components, and its code by them.
-use Rattle.std.proofs.Common.{◌≡◌, ℕ, ◌+◌, ◌-◌, ◌*◌, ◌/◌, ◌%◌, ◌<◌, ◌≤◌, ◌^◌, Bool, true, false, List, [], ◌∷◌, ◌++◌, length, refl, sym, ap, subst, ◌∙◌, arith, append_assoc, length-append, ap₂, zero, suc, lit<, take, get_or}
+use Rattle.std.proofs.Common.{◌≡◌, ℕ, ◌+◌, ◌*◌, ◌^◌, true, false, List, [], ◌∷◌, ◌++◌, length, refl, sym, ap, subst, ◌∙◌, arith, append_assoc, length-append, ap₂, zero, suc, lit<}
 use Rattle.std.proofs.lemmas.List.{append-nil}
-use Rattle.std.specs.Prelude.{ℤ, pos, negsuc, neg_ℤ, map, All, codes, Some, nat_lt, max, Result, Ok, Err, OnOk, FitsSigned}
+use Rattle.std.specs.Prelude.{ℤ, pos, negsuc, map, All, Result, Ok, Err, OnOk, FitsSigned}
 use Rattle.std.specs.Int.{w32}
 use Rattle.std.proofs.lemmas.Bool.{lt-ltb}
 use Rattle.std.proofs.lemmas.Bool.Decides.{nat_tests}
@@ -10,12 +10,12 @@ use Rattle.std.proofs.lemmas.List.Elements.{All-head, All-tail}
 use Rattle.gimple_ir.specs.declared.types.ScalarType.TheVariants as types
 use Rattle.rv64_isa.specs.declared.instr.Instr.{Instr}
 use Rattle.rv64_isa.specs.declared.instr.Instr.TheVariants.{Addi, Add, Sd, Ld, Jalr}
-use Rattle.rv64_isa.specs.Format.{IsSigned, residue, signed}
+use Rattle.rv64_isa.specs.Format.{IsSigned}
 use Rattle.rv64_abi.specs.Offsets.{call}
 use Rattle.rv64_abi.specs.Registers.{a0}
 use Rattle.rv64_frame.specs.Frames.{outgoing_of, frame_size, return_slot}
 use Rattle.rv64_select.specs.Templates.{is_signed_in, long_constant, constant_in, constant, machine_form}
-use Rattle.rv64_select.specs.Code.{enter_code, leave_code, entry_code, return_code, steps_code, step_code, code_of}
+use Rattle.rv64_select.specs.Code.{enter_code, leave_code, entry_code, steps_code, step_code}
 use Rattle.final_link.specs.Stubs.{functions_address, putchar_address}
 use Rattle.final_link.specs.Image.{code_bytes}
 use Rattle.first_form.specs.declared.form.FirstForm.{FirstForm}
@@ -70,6 +70,10 @@ puts_code at (l ∷ ls) = putchar_code at (value_of l) ++ puts_code (at + 4 * le
 pub puts-nil : (at : ℕ) → puts_code at [] ≡ []
 unfolding puts_code
 puts-nil at = refl
+
+pub puts-cons : (at : ℕ) (l : Literal) (ls : List Literal) → puts_code at (l ∷ ls) ≡ putchar_code at (value_of l) ++ puts_code (at + 4 * length (putchar_code at (value_of l))) ls
+unfolding puts_code
+puts-cons at l ls = refl
 
 pub puts-more : (at : ℕ) (ls : List Literal) (l : Literal) → puts_code at (ls ++ l ∷ []) ≡ puts_code at ls ++ putchar_code (at + 4 * length (puts_code at ls)) (value_of l)
 unfolding puts_code

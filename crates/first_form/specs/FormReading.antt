@@ -1,5 +1,5 @@
 -- How a text of the first form is read from left to right: what is read, and what is left behind it.
-use Rattle.std.specs.Prelude.{◌≡◌, ℕ, ◌+◌, ◌^◌, Bool, true, false, List, [], ◌∷◌, ◌++◌, length, Option, None, Some, option_and_then, if◌then◌else◌, ◌<◌, ◌≤◌, All}
+use Rattle.std.specs.Prelude.{◌≡◌, ℕ, ◌+◌, ◌^◌, Bool, true, false, List, ◌++◌, length, Option, None, Some, option_and_then, if◌then◌else◌, ◌≤◌, All}
 use Rattle.std.specs.List.{flat_map}
 use Rattle.gimple_syntax.specs.declared.token.Keyword.TheVariants as words
 use Rattle.gimple_syntax.specs.declared.token.Mark.TheVariants.{Semicolon, Minus, OpenRound, CloseRound, OpenCurly, CloseCurly}

@@ -1,3 +1,4 @@
 pub mod Form
 pub mod FormReading
+pub mod Source
 pub mod Compiled

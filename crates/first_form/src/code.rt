@@ -50,9 +50,10 @@ fn is_short(value: i32) -> bool
     -2048 <= value && value <= 2047
 }
 
-// A number into a0 by its upper and its lower part.
-fn put_long_argument(out: &mut Vec<u8>, value: i32) -> Result<(), NoMemory>
-    ensures words { OnOk result (out.new.items ≡ out.old.items ++ code_bytes (long_constant A0 value)) }
+// A number into a register by its upper and its lower part.
+fn put_long_constant(out: &mut Vec<u8>, register: u8, value: i32) -> Result<(), NoMemory>
+    requires { register < 2 ^ 5 }
+    ensures words { OnOk result (out.new.items ≡ out.old.items ++ code_bytes (long_constant register value)) }
     ensures len { OnOk result (vec_len out.new ≡ vec_len out.old + 8) }
 {
     let upper = upper(i64::from(value));
@@ -60,33 +61,37 @@ fn put_long_argument(out: &mut Vec<u8>, value: i32) -> Result<(), NoMemory>
     put_all(
         out,
         &[
-            Instr::Lui { rd: A0, imm: upper },
+            Instr::Lui {
+                rd: register,
+                imm: upper,
+            },
             Instr::Addiw {
-                rd: A0,
-                rs1: A0,
+                rd: register,
+                rs1: register,
                 imm: lower,
             },
         ],
     )
 }
 
-// A constant into a0.
-fn put_argument(out: &mut Vec<u8>, value: i32) -> Result<(), NoMemory>
-    ensures words { OnOk result (out.new.items ≡ out.old.items ++ code_bytes (constant A0 value)) }
-    ensures len { OnOk result (vec_len out.new ≡ vec_len out.old + 4 * length (constant A0 value)) }
+// A constant into a register.
+fn put_constant(out: &mut Vec<u8>, register: u8, value: i32) -> Result<(), NoMemory>
+    requires { register < 2 ^ 5 }
+    ensures words { OnOk result (out.new.items ≡ out.old.items ++ code_bytes (constant register value)) }
+    ensures len { OnOk result (vec_len out.new ≡ vec_len out.old + 4 * length (constant register value)) }
     ensures short { OnOk result (vec_len out.new ≤ vec_len out.old + 8) }
 {
     if is_short(value) {
         return put_all(
             out,
             &[Instr::Addi {
-                rd: A0,
+                rd: register,
                 rs1: 0,
                 imm: value,
             }],
         );
     }
-    put_long_argument(out, value)
+    put_long_constant(out, register, value)
 }
 
 /// A call, from one address, of another.
@@ -177,7 +182,7 @@ fn put_putchar(out: &mut Vec<u8>, argument: Literal) -> Result<(), NoMemory>
     ensures len { OnOk result (vec_len out.new ≡ vec_len out.old + 4 * length (putchar_code (functions_address + vec_len out.old) (value_of argument))) }
     ensures short { OnOk result (vec_len out.new ≤ vec_len out.old + 16) }
 {
-    put_argument(out, argument.value())?;
+    put_constant(out, A0, argument.value())?;
     let from = FUNCTIONS + out.len() as u32;
     put_call(out, from, PUTCHAR)
 }
@@ -195,7 +200,7 @@ pub fn main_code(alloc: Global, form: &FirstForm) -> Result<Vec<u8>, NoMemory>
     for argument in form.calls.as_slice() {
         put_putchar(&mut code, *argument)?;
     }
-    put_argument(&mut code, form.status.value())?;
+    put_constant(&mut code, A0, form.status.value())?;
     put_leave(&mut code)?;
     Ok(code)
 }

@@ -1,7 +1,7 @@
 // From text to image.
 ghost use Rattle.std.specs.Prelude.{◌<◌, ◌-◌, ◌^◌, length, IfOk, IsErrOf};
 ghost use Rattle.first_form.specs.Form.{IsUnbuilt};
-ghost use Rattle.first_form.specs.Compiled.{IsImageOf};
+ghost use Rattle.first_form.specs.Compiled.{IsImageOf, FollowsText};
 
 use crate::code::{FUNCTIONS, MAIN_FRAME, main_code};
 use crate::form::{FormFault, read_form};
@@ -13,6 +13,7 @@ use std::alloc::Global;
 pub fn compile(alloc: Global, text: &[u8]) -> Result<Vec<u8>, FormFault>
     requires { length text.now < 2 ^ 32 - 1 }
     ensures ok { IfOk result (λ image. IsImageOf text.now image.items) }
+    ensures follows { IfOk result (λ image. FollowsText text.now image.items) }
     ensures not_of_form { IsErrOf result FormFault.NotOfForm → IsUnbuilt text.now }
 {
     let form = read_form(alloc, text)?;

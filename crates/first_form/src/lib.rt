@@ -9,6 +9,8 @@ mod code;
 mod compiler;
 mod form;
 mod image;
+mod laws;
 
 pub use compiler::compile;
 pub use form::{FirstForm, FormFault, Literal, MOST_CALLS};
+pub use laws::first_form_follows;

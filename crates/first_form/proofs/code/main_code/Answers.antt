@@ -46,6 +46,6 @@ returns-clause-words c =
     let end : length calls ≤ c.loop-argument.argument-index = omega (arith, ap length c.as_slice-argument-items.ensures) in
     let all = take_all c.loop-argument.argument-index calls end in
     let fits = int-fits c.args.form.now.status c.value.result c.value.ensures c.requires.status in
-    main-bytes c.args.form.now c.loop-argument.code.items c.put_argument.new.out.items c.put_leave.new.out.items c.value.result c.requires.arguments c.requires.status c.value.ensures
+    main-bytes c.args.form.now c.loop-argument.code.items c.put_constant.new.out.items c.put_leave.new.out.items c.value.result c.requires.arguments c.requires.status c.value.ensures
     (c.loop-argument.invariant.words ∙ ap (λ ls. code_bytes (enter_code 16 0 ++ puts_code (functions_address + 12) ls)) all)
-    (simp to_z-of_z at c.in_ok-put_argument.ensures.words) c.in_ok-put_leave.ensures.words
+    (simp to_z-of_z at c.in_ok-put_constant.ensures.words) c.in_ok-put_leave.ensures.words

@@ -1,7 +1,6 @@
 use Rattle.std.proofs.Common.{Err, sym, ◌∙◌, ap}
 use Rattle.std.proofs.lemmas.Result.{err_from_is_err_and}
 use Rattle.gimple_syntax.specs.Reading.{line_of}
-use Rattle.gimple_syntax.specs.Tokens.{tokens_of}
 use Rattle.first_form.specs.FormReading.{read_opening, read_closing}
 use Rattle.first_form.proofs.FormLaws.{none-read, some-read, none-passed, some-passed, was-none, was-some, err-is, not_opened, not_completed, no_closing, completed}
 use Rattle.first_form.proofs.form.read_form.Goals as goal

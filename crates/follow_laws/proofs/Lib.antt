@@ -1,0 +1,10 @@
+pub mod WayLaws
+pub mod SimulationLaws
+pub mod NumberLaws
+pub mod TemplateLaws
+pub mod StubLaws
+pub mod EncodingLaws
+pub mod ImageLaws
+pub mod LoadableLaws
+pub mod SelectionLaws
+pub mod FrameLaws

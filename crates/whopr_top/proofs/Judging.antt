@@ -9,7 +9,7 @@ use Rattle.rv64_meaning.specs.Laws.{output_of}
 use Rattle.rv64_meaning.specs.Loading.{load_fault_of, run_of}
 use Rattle.whopr_top.specs.Reads.{reads_of, written_name, AreHeld}
 use Rattle.whopr_top.specs.Judgements.{Judgement, Refuses, Gives, Judges, run_by, line, outcome_line}
-use Rattle.whopr_top.specs.Outputs.{IsJudged, IsRefused, IsDone, IsCutShort, Done, CutShort, Refused, IsValid}
+use Rattle.whopr_top.specs.Outputs.{IsJudged, IsRefused, IsDone, IsCutShort, Done, Faithful, IsFaithful, CutShort, Refused, IsValid}
 use Rattle.whopr_top.specs.Answers.{Exactly, is_judged}
 use Rattle.whopr_top.specs.Attempts.{Judged}
 
@@ -88,6 +88,28 @@ two_reads limit None between first second name bytes same is within too fits = t
 two_reads limit (Some held) between first second name bytes same is within too fits =
     (is, within, (subst (λ (o : Option Contents). IfSome o (λ held. held name ≡ Some bytes)) same too, fits, tt))
 
+-- ---- the image of a text that was compiled
+
+faithful_text : (limit : ℕ) (input output : List ℕ) (old new : Contents) (w x : List ℕ) (cs : List (List ℕ)) → AreHeld limit old (input ∷ []) cs
+    → Judges (Cc input output) cs (Gives w x) → Writes output w old new → IsFaithful input output old new
+faithful_text limit input output old new w x [] read judged writes = absurd read
+faithful_text limit input output old new w x (text ∷ []) read judged writes = record {
+  text = text;
+  image = w;
+  form = judged.0.program;
+  held = read.0;
+  spelled = judged.0.spelled;
+  written = writes.written;
+  loads = judged.0.loads;
+  follows = judged.0.follows;
+}
+faithful_text limit input output old new w x (text ∷ other ∷ more) read judged writes = absurd read.2
+
+faithful : (limit : ℕ) (command : Spoken) (old new : Contents) (w x : List ℕ) (cs : List (List ℕ)) → AreHeld limit old (reads_of command) cs
+    → Judges command cs (Gives w x) → Writes (written_name command) w old new → Faithful (Some command) old new
+faithful limit (Cc input output) old new w x cs read judged writes = faithful_text limit input output old new w x cs read judged writes
+faithful limit (Run image steps input output) old new w x cs read judged writes = tt
+
 -- ---- what the command came to
 
 pub refused : (limit : ℕ) (command : Spoken) (old new : Option Contents) (before now s : ℕ) (x : List ℕ) (cs : List (List ℕ)) → s ≢ 0 → s ≢ 6
@@ -100,6 +122,7 @@ refused limit command old new before now s x cs not_0 not_6 read judged =
       unbuilt = λ held told _. record { only = λ is. (x, record { contents = cs; read = at held told; judged = with 13 is }); always = λ other. inl (held_status limit held command cs s 13 x (at held told) judged other) };
       complete = λ held told valid _. absurd (held_refused limit held command cs s x (at held told) judged valid);
       done = λ is. absurd (not_0 is);
+      follows = λ is. absurd (not_0 is);
       cut_short = λ is. absurd (not_6 is);
       done_line = λ is. absurd (not_0 is);
       refused_line = λ _. told_map (λ held. AreHeld limit held (reads_of command) cs) (λ held. IsRefused limit command held s x) old (λ held h. record { contents = cs; read = h; judged = judged }) read;
@@ -117,6 +140,9 @@ done limit command old between new before now w x cs same read judged writes =
       done = λ _. told_with (λ held. AreHeld limit held (reads_of command) cs) (Writes (written_name command) w) (IsDone limit command) old new
           (λ held then h write. record { written = w; text = x; judged = record { contents = cs; read = h; judged = judged }; writes = write })
           read (subst (λ (o : Option Contents). WhereTold o new (Writes (written_name command) w)) same writes);
+      follows = λ _. told_with (λ held. AreHeld limit held (reads_of command) cs) (Writes (written_name command) w) (Faithful (Some command)) old new
+          (λ held then h write. faithful limit command held then w x cs h judged write)
+          read (subst (λ (o : Option Contents). WhereTold o new (Writes (written_name command) w)) same writes);
       cut_short = λ is. grind (arith, is);
       done_line = λ _. told_map (λ held. AreHeld limit held (reads_of command) cs) (λ held. (written : List ℕ) × IsJudged limit command held written x) old (λ held h. (w, record { contents = cs; read = h; judged = judged })) read;
       refused_line = λ is. grind (arith, is);
@@ -132,6 +158,7 @@ cut_short limit command old between new before now w x y cs same read judged wri
       unbuilt = λ held told _. exactly_other 13 6 (Refused 13 limit held (Some command)) (λ is. grind (arith, is)) (held_given limit held command cs w x 13 (at held told) judged);
       complete = λ held told valid still. absurd (still rose);
       done = λ is. grind (arith, is);
+      follows = λ is. grind (arith, is);
       cut_short = λ _. told_with (λ held. AreHeld limit held (reads_of command) cs) (WritesPrefix (written_name command) w) (IsCutShort limit command) old new
           (λ held then h write. record { written = w; text = x; judged = record { contents = cs; read = h; judged = judged }; writes = write })
           read (subst (λ (o : Option Contents). WhereTold o new (WritesPrefix (written_name command) w)) same writes);

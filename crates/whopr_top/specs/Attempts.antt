@@ -5,7 +5,7 @@ use Rattle.outer_files.specs.Outside.{Contents, WhereTold, Rose, RoseBy}
 use Rattle.whopr_words.specs.Commands.{Spoken}
 use Rattle.whopr_top.specs.Reads.{reads_of, written_name, IsOverLimit, IsAbsent, IsReached}
 use Rattle.whopr_top.specs.Judgements.{line}
-use Rattle.whopr_top.specs.Outputs.{IsJudged, IsRefused, Done, CutShort, Refused, IsValid}
+use Rattle.whopr_top.specs.Outputs.{IsJudged, IsRefused, Done, Faithful, CutShort, Refused, IsValid}
 use Rattle.whopr_top.specs.Answers.{Exactly, is_status, is_early, is_judged, lines_of}
 
 -- what does not ask for what the command comes to by what it read
@@ -37,6 +37,7 @@ pub record Judged (limit : ℕ) (command : Option Spoken) (old new : Option Cont
   pub unbuilt : ForSome old (λ held. status ≢ 5 → Exactly 13 status (Refused 13 limit held command))
   pub complete : ForSome old (λ held. IsValid limit held command → ¬ Rose before now → (status ≡ 0) ⊎ (status ≡ 7))
   pub done : status ≡ 0 → WhereTold old new (Done limit command)
+  pub follows : status ≡ 0 → WhereTold old new (Faithful command)
   pub cut_short : status ≡ 6 → WhereTold old new (CutShort limit command)
   pub done_line : status ≡ 0 → IfSome old (λ files. IsSomeAnd command (λ c. (written : List ℕ) × IsJudged limit c files written text))
   pub refused_line : IsTrue (is_judged status) → IfSome old (λ files. IsSomeAnd command (λ c. IsRefused limit c files status text))

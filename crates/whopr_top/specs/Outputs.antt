@@ -1,7 +1,12 @@
 -- What the files hold after a command, by what it read.
-use Rattle.std.specs.Prelude.{ℕ, List, Option, IsSomeAnd}
+use Rattle.std.specs.Prelude.{◌≡◌, ℕ, List, Option, None, Some, IsSomeAnd}
 use Rattle.outer_files.specs.Outside.{Contents, Writes, WritesPrefix}
-use Rattle.whopr_words.specs.Commands.{Spoken}
+use Rattle.rv64_meaning.specs.Loading.{load_fault_of}
+use Rattle.follow_laws.specs.Follows.{Follows}
+use Rattle.first_form.specs.declared.form.FirstForm.{FirstForm}
+use Rattle.first_form.specs.Form.{Spells}
+use Rattle.first_form.specs.Source.{program_of}
+use Rattle.whopr_words.specs.Commands.{Spoken, Cc}
 use Rattle.whopr_top.specs.Reads.{reads_of, written_name, AreHeld}
 use Rattle.whopr_top.specs.Judgements.{Refuses, Gives, Judges}
 
@@ -18,7 +23,24 @@ pub record IsDone (limit : ℕ) (command : Spoken) (old new : Contents) : Type 0
   pub judged : IsJudged limit command old written text
   pub writes : Writes (written_name command) written old new
 
--- the same, cut short
+-- the text that is held as IN is spelled in the first form, and OUT holds an image that can be loaded and that does, on every
+-- input, what the program of the text does
+pub record IsFaithful (input output : List ℕ) (old new : Contents) : Type 0 where
+  pub text : List ℕ
+  pub image : List ℕ
+  pub form : FirstForm
+  pub held : old input ≡ Some text
+  pub spelled : Spells text form
+  pub written : new output ≡ Some image
+  pub loads : load_fault_of image ≡ None
+  pub follows : Follows image (program_of form)
+
+-- the image of each text that was compiled follows its program
+abbrev pub Faithful : Option Spoken → Contents → Contents → Type 0
+Faithful (Some (Cc input output)) old new = IsFaithful input output old new
+Faithful _ old new = Unit {0}
+
+-- a prefix of what the command gives was written
 pub record IsCutShort (limit : ℕ) (command : Spoken) (old new : Contents) : Type 0 where
   pub written : List ℕ
   pub text : List ℕ

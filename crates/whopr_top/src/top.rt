@@ -4,7 +4,7 @@ ghost use Rattle.std.specs.Option.{ForSome};
 ghost use Rattle.outer_files.specs.Outside.{WhereTold, Rose, RoseBy};
 ghost use Rattle.whopr_words.specs.Commands.{words_of, command_of};
 ghost use Rattle.whopr_top.specs.Reads.{reads_of, IsOverLimit, IsAbsent};
-ghost use Rattle.whopr_top.specs.Outputs.{Done, CutShort, Refused, IsValid};
+ghost use Rattle.whopr_top.specs.Outputs.{Done, Faithful, CutShort, Refused, IsValid};
 ghost use Rattle.whopr_top.specs.Answers.{Exactly, is_status, is_early, lines_of, IsQuiet, PutsLine};
 
 use crate::attempt::attempt;
@@ -53,6 +53,9 @@ pub fn plain<F: FileStore, K: Sink>(
     ensures complete { ForSome (F.held files.old) (λ held. IsValid FILE_BYTES held (command_of (words_of words.now))
         → ¬ Rose (F.faults files.old) (F.faults files.new) → ¬ Rose (K.known out.old).faults (K.known out.new).faults → (result ≡ 0) ⊎ (result ≡ 7)) }
 
+    // An image that was compiled can be loaded and does, on every input, what the program of its text does.
+    ensures follows { result ≡ 0 → WhereTold (F.held files.old) (F.held files.new) (Faithful (command_of (words_of words.now))) }
+
     // What the files hold then. Where the sink fails at the text of a command that was done, its file is written.
     ensures done { result ≡ 0 → WhereTold (F.held files.old) (F.held files.new) (Done FILE_BYTES (command_of (words_of words.now))) }
     ensures cut_short { result ≡ 6 → WhereTold (F.held files.old) (F.held files.new) (CutShort FILE_BYTES (command_of (words_of words.now)))
@@ -93,6 +96,9 @@ pub fn whopr<F: FileStore, K: Sink>(
     // A command over held files that nothing keeps from being done is done, where neither the store nor the sink fails.
     ensures complete { ForSome (F.held files.old) (λ held. IsValid FILE_BYTES held (command_of (words_of words.now))
         → ¬ Rose (F.faults files.old) (F.faults files.new) → ¬ Rose (K.known out.old).faults (K.known out.new).faults → (result ≡ 0) ⊎ (result ≡ 7)) }
+
+    // An image that was compiled can be loaded and does, on every input, what the program of its text does.
+    ensures follows { result ≡ 0 → WhereTold (F.held files.old) (F.held files.new) (Faithful (command_of (words_of words.now))) }
 
     // What the files hold then. Where the sink fails at the text of a command that was done, its file is written.
     ensures done { result ≡ 0 → WhereTold (F.held files.old) (F.held files.new) (Done FILE_BYTES (command_of (words_of words.now))) }

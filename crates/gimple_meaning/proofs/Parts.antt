@@ -1,19 +1,19 @@
 -- Components and arrays that are read and written.
-use Rattle.std.proofs.Common.{◌≡◌, ◌<◌, ◌≤◌, ◌+◌, ◌^◌, ℕ, zero, suc, ℤ, pos, negsuc, ◌≤ℤ◌, refl, ap, sym, ◌∙◌, List, [], ◌∷◌, Option, Some, None, length, All, IfSome, slice_get, slice_set, slice_index_or, option_and_then, replicate, ◌-◌, arith}
+use Rattle.std.proofs.Common.{◌≡◌, ◌<◌, ◌≤◌, ℕ, zero, suc, ℤ, pos, negsuc, refl, ap, List, [], ◌∷◌, Option, None, length, All, IfSome, slice_get, slice_set, slice_index_or, replicate, ◌-◌, arith}
 use Rattle.std.proofs.lemmas.Int.{ints}
 use Rattle.std.specs.Option.{option_map}
 use Rattle.std.proofs.lemmas.List.Elements.{All-append, All-head, All-replicate, All-set, All-tail}
-use Rattle.gimple_ir.specs.Values.{IsValue, InRange}
+use Rattle.gimple_ir.specs.Values.{IsValue}
 use Rattle.gimple_ir.specs.Programs.{IsElement}
 use Rattle.gimple_ir.specs.declared.types.ScalarType.TheVariants.{Int, UnsignedInt, LongInt, LongUnsignedInt}
 use Rattle.gimple_ir.specs.declared.types.ElementType.{ElementType}
 use Rattle.gimple_ir.specs.declared.types.ElementType.TheVariants as element
 use Rattle.gimple_ir.specs.declared.types.Array.{Array}
 use Rattle.gimple_ir.specs.declared.types.Value.{Value}
-use Rattle.gimple_meaning.specs.Acts.{cell, element_type, element_at, loaded, with_element}
+use Rattle.gimple_meaning.specs.Acts.{cell, element_type, loaded, with_element}
 use Rattle.gimple_meaning.specs.Moves.{loaded_at}
 use Rattle.gimple_meaning.specs.Systems.{first_arrays}
-use Rattle.gimple_meaning.specs.Held.{IsCell, IsNumbersOf, AreElements, HasInitial}
+use Rattle.gimple_meaning.specs.Held.{IsCell, AreElements, HasInitial}
 
 pub cell-get_or : (xs : List (Option Value)) (i : ℕ) → slice_index_or xs i None ≡ cell xs i
 cell-get_or [] i = refl

@@ -1,26 +1,23 @@
 -- A plan's act is that of the statement that it is made for, and what a plan does to the stage is what the act does.
-use Rattle.std.proofs.Common.{◌≡◌, ◌+◌, ℕ, zero, suc, ℤ, pos, refl, ap, sym, ◌∙◌, List, [], ◌∷◌, ◌++◌, Option, Some, None, IfSome, All, slice_get, slice_set, option_and_then, unsigned_abs}
+use Rattle.std.proofs.Common.{◌≡◌, ℕ, ℤ, pos, refl, ap, ◌∙◌, List, Option, Some, None, slice_get, option_and_then, unsigned_abs}
 use Rattle.std.specs.Prelude.{if◌then◌else◌}
 use Rattle.std.specs.Option.{option_map}
 use Rattle.std.specs.Ordering.{int_eq}
-use Rattle.std.proofs.lemmas.List.Elements.{All-head, All-tail}
 use Rattle.gimple_ir.specs.Values.{unary_of, convert_of}
 use Rattle.gimple_ir.specs.Statements.{component_types}
-use Rattle.gimple_ir.specs.Programs.{HasValues, IsArgument, IsProgram, IsProgramFunction}
 use Rattle.gimple_ir.specs.declared.types.ElementType.{ElementType}
 use Rattle.gimple_ir.specs.declared.types.ScalarType.{ScalarType}
 use Rattle.gimple_ir.specs.declared.types.Value.{Value}
 use Rattle.gimple_ir.specs.declared.types.Array.{Array}
 use Rattle.gimple_ir.specs.declared.types.Arg.{Arg}
 use Rattle.gimple_ir.specs.declared.types.Function.{Function}
-use Rattle.gimple_ir.specs.declared.types.Program.{Program}
 use Rattle.gimple_ir.specs.declared.types.Statement.{Statement}
 use Rattle.gimple_ir.specs.declared.types.Statement.TheVariants.{Nop, Label, Goto, Cond, Switch, ReturnVoid, Return, Copy, Unary, Convert, Binary, Load, Store as StoreTo, CopyStruct, Call, Putchar, Getchar, Exit}
 use Rattle.gimple_meaning.specs.declared.moves.Move.{Move}
 use Rattle.gimple_meaning.specs.declared.moves.Move.TheVariants as move
-use Rattle.gimple_meaning.specs.Acts.{Store, Act, Fault, Goes, needing, low_byte, value_at, sets, operation_of, case_label, element_type, element_at, loaded, stored}
-use Rattle.gimple_meaning.specs.Moves.{on, operation_on, unary_on, converted_on, loaded_at, loaded_on, store_on, move_of, act_of, IsPlain, IsCallOf}
-use Rattle.gimple_meaning.specs.Source.{effect, place_of}
+use Rattle.gimple_meaning.specs.Acts.{Store, needing, low_byte, value_at, operation_of, case_label, element_type, element_at, loaded, stored}
+use Rattle.gimple_meaning.specs.Moves.{on, loaded_on, store_on, move_of, act_of, IsPlain, IsCallOf}
+use Rattle.gimple_meaning.specs.Source.{effect}
 use Rattle.gimple_meaning.specs.Stages.{call_act}
 
 -- ---- plans

@@ -1,5 +1,5 @@
 -- What the interpreter keeps of its parts: values in their types' ranges.
-use Rattle.std.specs.Prelude.{ℕ, ◌+◌, ◌^◌, ◌<◌, ℤ, List, All, Option, IfSome}
+use Rattle.std.specs.Prelude.{◌+◌, ◌^◌, ◌<◌, ℤ, List, All, Option, IfSome}
 use Rattle.std.specs.List.{AllZip}
 use Rattle.gimple_ir.specs.Values.{IsValue}
 use Rattle.gimple_ir.specs.Programs.{IsElement, HasValues}

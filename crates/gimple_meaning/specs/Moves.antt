@@ -18,7 +18,7 @@ use Rattle.gimple_ir.specs.declared.types.Statement.{Statement}
 use Rattle.gimple_ir.specs.declared.types.Statement.TheVariants.{Nop, Label, Goto, Cond, Switch, ReturnVoid, Return, Copy, Unary, Convert, Binary, Load, Store as StoreTo, CopyStruct, Call, Putchar, Getchar, Exit}
 use Rattle.gimple_meaning.specs.declared.moves.Move.{Move}
 use Rattle.gimple_meaning.specs.declared.moves.Move.TheVariants as move
-use Rattle.gimple_meaning.specs.Acts.{Store, Act, Fault, Goes, Leaves, Exits, needing, low_byte, value_at, sets, copied, operation_of, case_label, element_type, element_at, loaded, stored, with_element, read_byte, unread}
+use Rattle.gimple_meaning.specs.Acts.{Store, Act, Fault, Goes, Leaves, Exits, low_byte, value_at, sets, copied, operation_of, case_label, element_type, element_at, loaded, stored, with_element, read_byte, unread}
 use Rattle.gimple_meaning.specs.Source.{place_of, struct_pairs}
 
 abbrev pub on : {T : Type 0} → Option T → (T → Move) → Move

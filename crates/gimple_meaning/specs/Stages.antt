@@ -14,7 +14,7 @@ use Rattle.gimple_meaning.specs.declared.phase.Phase.TheVariants as phase
 use Rattle.gimple_meaning.specs.Acts.{Act, Fault, Calls, value_at, read_byte, unread}
 use Rattle.gimple_meaning.specs.Moves.{act_of}
 use Rattle.gimple_meaning.specs.Source.{source_of, can_pass, operands_of, effect}
-use Rattle.gimple_meaning.specs.Systems.{Frame, Machine, State, most_frames, moved, Running, Ended, Undefined, applied, left, store_of, step}
+use Rattle.gimple_meaning.specs.Systems.{Frame, Machine, State, most_frames, moved, Running, Ended, Undefined, applied, store_of, step}
 
 pub record Stage : Type 0 where
   pub program : Program

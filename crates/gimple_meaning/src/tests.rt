@@ -296,27 +296,18 @@ fn row(alloc: Global, case: u32) -> Result<(Vec<Statement>, Outcome), Fail> {
             vec![in alloc; get, again, Statement::Getchar(Some(0)), give]?,
             Outcome::Ended(255),
         ),
+        _ => jump_row(alloc, case)?,
+    })
+}
+
+fn jump_row(alloc: Global, case: u32) -> Result<(Vec<Statement>, Outcome), Fail> {
+    let give = Statement::Return(X);
+    Ok(match case {
         9 => (
-            vec![in alloc;
-                assign(3, int(6)),
-                Statement::CopyStruct { to: 3, from: 2 },
-                call(alloc, 0, 2, Arg::Whole(3))?,
-                give,
-            ]?,
-            Outcome::Ended(6),
-        ),
-        10 => (
-            vec![in alloc; call(alloc, 0, 2, Arg::Whole(2))?]?,
-            Outcome::Undefined {
-                function: 2,
-                statement: 0,
-            },
-        ),
-        11 => (
             vec![in alloc; Statement::Exit(int(-1))]?,
             Outcome::Ended(255),
         ),
-        12 => (
+        10 => (
             vec![in alloc;
                 switch(alloc, 5)?,
                 Statement::Label(0),
@@ -326,20 +317,43 @@ fn row(alloc: Global, case: u32) -> Result<(Vec<Statement>, Outcome), Fail> {
             ]?,
             Outcome::Ended(1),
         ),
+        11 => (
+            vec![in alloc; Statement::Label(0), Statement::Goto(0)]?,
+            Outcome::Running,
+        ),
+        _ => call_row(alloc, case)?,
+    })
+}
+
+fn call_row(alloc: Global, case: u32) -> Result<(Vec<Statement>, Outcome), Fail> {
+    let give = Statement::Return(X);
+    Ok(match case {
+        12 => (
+            vec![in alloc;
+                assign(3, int(6)),
+                Statement::CopyStruct { to: 3, from: 2 },
+                call(alloc, 0, 2, Arg::Whole(3))?,
+                give,
+            ]?,
+            Outcome::Ended(6),
+        ),
         13 => (
+            vec![in alloc; call(alloc, 0, 2, Arg::Whole(2))?]?,
+            Outcome::Undefined {
+                function: 2,
+                statement: 0,
+            },
+        ),
+        14 => (
             vec![in alloc; call(alloc, 0, 1, Arg::One(int(4094)))?, give]?,
             Outcome::Ended(0),
         ),
-        14 => (
+        15 => (
             vec![in alloc; call(alloc, 0, 1, Arg::One(int(4095)))?, give]?,
             Outcome::Undefined {
                 function: 1,
                 statement: 3,
             },
-        ),
-        15 => (
-            vec![in alloc; Statement::Label(0), Statement::Goto(0)]?,
-            Outcome::Running,
         ),
         _ => (
             vec![in alloc; call(alloc, 0, 1, Arg::One(X))?]?,

@@ -1,4 +1,4 @@
-use Rattle.std.proofs.Common.{◌≡◌, ◌∙◌, ap, IfSome, subst, sym}
+use Rattle.std.proofs.Common.{◌≡◌, ◌∙◌, ap, IfSome, subst}
 use Rattle.std.specs.Int.{w128}
 use Rattle.std.proofs.lemmas.Int.{to_z-of_z}
 use Rattle.gimple_ir.specs.Values.{IsValue}

@@ -1,5 +1,3 @@
-use Rattle.std.proofs.Common.{◌∙◌, ap}
-use Rattle.gimple_meaning.specs.Systems.{first_arrays}
 use Rattle.gimple_meaning.proofs.Parts.{elements-first}
 use Rattle.gimple_meaning.proofs.arrays.Arrays.start.Goals as goal
 

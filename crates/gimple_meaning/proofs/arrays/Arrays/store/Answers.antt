@@ -3,8 +3,7 @@ use Rattle.std.proofs.lemmas.Grind.{common_steps}
 use Rattle.std.specs.Int.{w128}
 use Rattle.std.proofs.lemmas.Int.{to_z-of_z}
 use Rattle.gimple_meaning.proofs.Parts.{with_element-in, with_element-past, elements-set}
-use Rattle.gimple_meaning.specs.Acts.{with_element, element_type}
-use Rattle.gimple_meaning.specs.Held.{AreElements}
+use Rattle.gimple_meaning.specs.Acts.{with_element}
 use Rattle.gimple_meaning.proofs.arrays.Arrays.store.Goals as goal
 
 pub invariant_of-self : goal.invariant_of-self

@@ -1,5 +1,5 @@
-use Rattle.std.proofs.Common.{◌≡◌, ◌∙◌, ap, sym, subst, IfOk}
-use Rattle.gimple_meaning.specs.Stages.{acted, planned_from, effect_from, state_of, machine_of}
+use Rattle.std.proofs.Common.{◌≡◌, ◌∙◌, ap, sym}
+use Rattle.gimple_meaning.specs.Stages.{acted, planned_from, effect_from, machine_of}
 use Rattle.gimple_meaning.specs.Systems.{store_of}
 use Rattle.gimple_meaning.proofs.StageLaws.{plan-is}
 use Rattle.gimple_meaning.proofs.stage.Stage.act.Goals as goal

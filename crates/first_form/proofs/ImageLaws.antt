@@ -1,8 +1,9 @@
 -- The bytes of instructions behind one another, and how many there are.
-use Rattle.std.proofs.Common.{◌≡◌, ℕ, zero, suc, ◌+◌, ◌*◌, ◌<◌, List, [], ◌∷◌, ◌++◌, length, get_or, take, refl, sym, ap, ap₂, ◌∙◌, arith, append_assoc, length-append}
+use Rattle.std.proofs.Common.{◌≡◌, ℕ, zero, suc, ◌+◌, ◌<◌, List, [], ◌∷◌, ◌++◌, length, get_or, take, refl, ap, ap₂, ◌∙◌, arith, append_assoc}
 use Rattle.std.proofs.lemmas.List.{take_more, append-nil}
 use Rattle.rv64_isa.specs.declared.instr.Instr.{Instr}
 use Rattle.rv64_isa.specs.Words.{InRange}
+use Rattle.follow_laws.proofs.ImageLaws.{code_bytes-append}
 use Rattle.final_link.specs.Image.{word_bytes, code_bytes, AllInRange, text_size, data_address, scratch_address, stack_top, headers, image_of}
 use Rattle.final_link.specs.Stubs.{start_address, stubs}
 use Rattle.std.specs.Prelude.{replicate, ◌-◌}
@@ -14,20 +15,6 @@ code_bytes-nil = refl
 pub code_bytes-cons : (i : Instr) (is : List Instr) → code_bytes (i ∷ is) ≡ word_bytes i ++ code_bytes is
 unfolding code_bytes
 code_bytes-cons i is = refl
-
-pub code_bytes-append : (xs ys : List Instr) → code_bytes (xs ++ ys) ≡ code_bytes xs ++ code_bytes ys
-unfolding code_bytes
-code_bytes-append [] ys = refl
-code_bytes-append (x ∷ xs) ys = ap (λ (bs : List ℕ). word_bytes x ++ bs) (code_bytes-append xs ys) ∙ sym (append_assoc (word_bytes x) (code_bytes xs) (code_bytes ys))
-
-pub length-word_bytes : (i : Instr) → length (word_bytes i) ≡ 4
-unfolding word_bytes
-length-word_bytes i = refl
-
-pub length-code_bytes : (xs : List Instr) → length (code_bytes xs) ≡ 4 * length xs
-unfolding code_bytes
-length-code_bytes [] = refl
-length-code_bytes (x ∷ xs) = omega (arith, length-append (word_bytes x) (code_bytes xs), length-word_bytes x, length-code_bytes xs)
 
 pub in_range-at : (is : List Instr) (k : ℕ) (d : Instr) → AllInRange is → k < length is → InRange (get_or is k d)
 in_range-at [] k d all lt = absurd (omega arith)

@@ -1,13 +1,10 @@
 -- What the machine does at each part of `main` of the first form.
-use Rattle.std.proofs.Common.{◌≡◌, ℕ, ◌+◌, ◌-◌, ◌*◌, ◌%◌, ◌^◌, ◌<◌, ◌≤◌, ℤ, pos, negsuc, true, List, [], ◌∷◌, ◌++◌, length, inr, refl, sym, ap, ◌∙◌, subst, arith, length-append, lit<}
-use Rattle.std.proofs.lemmas.Int.{ints}
-use Rattle.std.proofs.lemmas.Bool.{and_from, or_right, le-leb, eq-eqb}
-use Rattle.std.proofs.lemmas.Bool.Decides.{nat_tests}
+use Rattle.std.proofs.Common.{◌≡◌, ℕ, ◌+◌, ◌-◌, ◌*◌, ◌%◌, ◌^◌, ◌<◌, ◌≤◌, ℤ, pos, List, [], ◌∷◌, ◌++◌, length, inr, refl, sym, ap, ◌∙◌, subst, arith, length-append, lit<}
 use Rattle.std.proofs.Math.Nat.{mod-one}
 use Rattle.rv64_isa.specs.declared.instr.Instr.TheVariants.{Addi, Ecall}
 use Rattle.rv64_isa.specs.Format.{IsSigned}
 use Rattle.rv64_meaning.specs.Arithmetic.{bits64}
-use Rattle.rv64_meaning.specs.Machine.{Segments, State, load, store, in_text, in_data, can_load, can_store}
+use Rattle.rv64_meaning.specs.Machine.{Segments, State, load, store, can_load, can_store}
 use Rattle.rv64_meaning.proofs.MemoryLaws.{load_same, load_apart}
 use Rattle.gimple_meaning.specs.Acts.{low_byte}
 use Rattle.rv64_abi.specs.Offsets.{call}
@@ -17,23 +14,10 @@ use Rattle.final_link.specs.Stubs.{putchar_address, start_stub, putchar_stub}
 use Rattle.follow_laws.specs.Relation.{StandsAt, ComesTo, EndsWith}
 use Rattle.follow_laws.specs.Effects.{with_register, called}
 use Rattle.follow_laws.proofs.WayLaws.{leads_twice, comes_to_end, comes_of, stands_front, stands_back}
-use Rattle.follow_laws.proofs.TemplateLaws.{constant_sets, call_goes, enter_makes_frame, leave_returns}
+use Rattle.follow_laws.proofs.FrameLaws.{low_byte_kept, data_reached}
+use Rattle.follow_laws.proofs.TemplateLaws.{wide_32, constant_sets, call_goes, enter_makes_frame, leave_returns}
 use Rattle.follow_laws.proofs.StubLaws.{start_calls, exit_ends, putchar_writes}
 use Rattle.first_form.specs.Form.{putchar_code}
-
-pub can_store_at : (m : Segments) (a n : ℕ) → a % n ≡ 0 → m.data_start ≤ a → a + n ≤ m.data_end → can_store m a n ≡ true
-can_store_at m a n e l h = and_from _ _ (eq-eqb (a % n) 0 e) (and_from _ _ (le-leb m.data_start a l) (le-leb (a + n) m.data_end h))
-
-pub can_load_at : (m : Segments) (a n : ℕ) → a % n ≡ 0 → m.data_start ≤ a → a + n ≤ m.data_end → can_load m a n ≡ true
-can_load_at m a n e l h = and_from _ _ (eq-eqb (a % n) 0 e) (or_right (in_text m a n) (in_data m a n) (and_from _ _ (le-leb m.data_start a l) (le-leb (a + n) m.data_end h)))
-
-pub wide : (c : ℤ) → IsSigned (2 ^ 32) c → IsSigned (2 ^ 64) c
-wide (pos n) h = omega arith
-wide (negsuc n) h = omega arith
-
-pub low_bits : (c : ℤ) → bits64 c % 2 ^ 8 ≡ low_byte c
-low_bits (pos n) = grind (arith, nat_tests, ints)
-low_bits (negsuc n) = grind (arith, nat_tests, ints)
 
 -- where data, the scratch byte and the stack lie, and the stub of putchar
 pub record Surrounds (m : Segments) (scratch top : ℕ) : Type 0 where
@@ -63,10 +47,10 @@ put_runs m scratch top ret out c s w fits near even has stack_is saved_is out_is
     let u = called t putchar_address in
     let go = call t.pc putchar_address in
     let len : s.pc + 4 * length k + 8 ≡ s.pc + 4 * length (putchar_code s.pc c) = omega (arith, length-append k go) in
-    let to_t = constant_sets m s 10 c (wide c fits) refl (stands_front m s.pc k go has) in
+    let to_t = constant_sets m s 10 c (wide_32 c fits) refl (stands_front m s.pc k go has) in
     let to_u = call_goes m t putchar_address (omega (arith, near, len)) (lit< tt) refl (stands_back m s.pc k go has) in
     let scratch_small : scratch < 2 ^ 31 - 2 ^ 11 = omega (arith, w.small, w.stack) in
-    let can = can_store_at m scratch 1 (mod-one scratch) w.low (omega (arith, w.stack, w.end)) in
+    let can = (data_reached m scratch 1 (mod-one scratch) w.low (omega (arith, w.stack, w.end))).1 in
     let p = putchar_writes m u scratch scratch_small can (omega (arith, near, len)) (omega (arith, even)) w.stub in
     let after = p.holds in
     let apart : scratch + 1 ≤ top - 16 = omega (arith, w.stack) in
@@ -77,7 +61,7 @@ put_runs m scratch top ret out c s w fits near even has stack_is saved_is out_is
         place = after.place ∙ len;
         stack = after.stack ∙ stack_is;
         saved = ap (λ f. load 8 f (top - 16)) after.mem ∙ load_apart 8 1 s.mem scratch v (top - 16) (inr apart) ∙ saved_is;
-        output = after.output ∙ ap (λ x. x ++ (v % 2 ^ 8) ∷ []) out_is ∙ ap (λ b. out ++ b ∷ []) (low_bits c);
+        output = after.output ∙ ap (λ x. x ++ (v % 2 ^ 8) ∷ []) out_is ∙ ap (λ b. out ++ b ∷ []) (low_byte_kept c).0;
       };
     }
 
@@ -100,7 +84,7 @@ start_runs m scratch top main s w at_is out_is even near has has_main =
     let aligned = w.aligned in
     let sp_is = q.stack in
     let deep : t.reg 2 - 16 + 0 ≡ top - 16 = omega (arith, sp_is) in
-    let can = ap (λ a. can_store m a 8) deep ∙ can_store_at m (top - 16) 8 (omega (arith, aligned, stack)) (omega (arith, w.low, stack)) (omega (arith, w.end, stack)) in
+    let can = ap (λ a. can_store m a 8) deep ∙ (data_reached m (top - 16) 8 (omega (arith, aligned, stack)) (omega (arith, w.low, stack)) (omega (arith, w.end, stack))).1 in
     let here = subst (λ n. StandsAt m n (enter_code 16 0)) (sym q.place) has_main in
     let e = enter_makes_frame m t 16 0 (omega (arith, sp_is, small)) (omega (arith, sp_is, stack)) (lit< tt) can here in
     let r = e.holds in
@@ -128,17 +112,17 @@ leave_runs m scratch top out c s w fits has ending stack_is saved_is out_is =
     let stack = w.stack in
     let aligned = w.aligned in
     let deep : s.reg 2 + 0 ≡ top - 16 = omega (arith, stack_is) in
-    let can = ap (λ a. can_load m a 8) deep ∙ can_load_at m (top - 16) 8 (omega (arith, aligned, stack)) (omega (arith, w.low, stack)) (omega (arith, w.end, stack)) in
+    let can = ap (λ a. can_load m a 8) deep ∙ (data_reached m (top - 16) 8 (omega (arith, aligned, stack)) (omega (arith, w.low, stack)) (omega (arith, w.end, stack))).0 in
     let ret : load 8 s.mem (s.reg 2 + 0) ≡ 0x10010 = ap (load 8 s.mem) deep ∙ saved_is in
     let p = leave_returns m t 16 0 (omega (arith, stack_is, small)) (lit< tt) (lit< tt) can (omega (arith, ret)) (omega (arith, ret)) (stands_back m s.pc k (leave_code 16 0) has) in
     let u = p.state in
     let q = p.holds in
     let place : u.pc ≡ 0x10010 = q.place ∙ ret in
     let e = exit_ends m u (subst (λ n. StandsAt m n (Addi 17 0 (pos 93) ∷ Ecall ∷ [])) (sym place) ending) in
-    let status : u.reg 10 % 2 ^ 8 ≡ low_byte c = ap (λ n. n % 2 ^ 8) (q.others 10 refl refl refl refl) ∙ low_bits c in
+    let status : u.reg 10 % 2 ^ 8 ≡ low_byte c = ap (λ n. n % 2 ^ 8) (q.others 10 refl refl refl refl) ∙ (low_byte_kept c).0 in
     let written : u.output ≡ out = q.output ∙ out_is in
     let last : EndsWith m u (low_byte c) out = subst (λ o. EndsWith m u (low_byte c) o) written (subst (λ n. EndsWith m u n u.output) status e) in
-    comes_to_end m s u (low_byte c) out (comes_of m s u (leads_twice m s t u (constant_sets m s 10 c (wide c fits) refl (stands_front m s.pc k (leave_code 16 0) has)) p.leads)) last
+    comes_to_end m s u (low_byte c) out (comes_of m s u (leads_twice m s t u (constant_sets m s 10 c (wide_32 c fits) refl (stands_front m s.pc k (leave_code 16 0) has)) p.leads)) last
 
 pub leave_runs_at : (m : Segments) (scratch top at : ℕ) (out : List ℕ) (c : ℤ) (s : State) → Surrounds m scratch top → IsSigned (2 ^ 32) c → Between at (top - 16) 0x10010 out s
     → StandsAt m at (constant 10 c ++ leave_code 16 0) → StandsAt m 0x10010 (Addi 17 0 (pos 93) ∷ Ecall ∷ []) → EndsWith m s (low_byte c) out

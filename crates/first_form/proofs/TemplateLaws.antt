@@ -22,7 +22,7 @@ use Rattle.first_form.specs.declared.form.FirstForm.{FirstForm}
 use Rattle.first_form.specs.declared.form.Literal.{Literal}
 use Rattle.first_form.specs.declared.form.Literal.TheVariants.{Plain, Negated}
 use Rattle.first_form.specs.Form.{IsInt, value_of, put_of, return_of, body_of, main_of, stub_address, putchar_code, main_code}
-use Rattle.first_form.proofs.ImageLaws.{code_bytes-append}
+use Rattle.follow_laws.proofs.ImageLaws.{code_bytes-append}
 
 pub on_ok : {T E : Type 0} (r : Result T E) (P Q : Type 0) → (P → Q) → OnOk r P → OnOk r Q
 on_ok (Ok x) P Q f p = f p

@@ -1,19 +1,48 @@
 -- Frames in memory: what stores leave of them, and what operands find in them.
-use Rattle.std.proofs.Common.{◌≡◌, ◌≢◌, ℕ, zero, suc, ◌+◌, ◌-◌, ◌*◌, ◌%◌, ◌^◌, ◌<◌, ◌≤◌, ◌⊎◌, inl, inr, true, List, [], ◌∷◌, length, Option, Some, None, refl, sym, ap, ◌∙◌, subst, arith}
-use Rattle.std.specs.Prelude.{slice_set, replicate}
+use Rattle.std.proofs.Common.{◌≡◌, ◌≢◌, ℕ, zero, suc, ◌+◌, ◌-◌, ◌*◌, ◌%◌, ◌^◌, ◌<◌, ◌≤◌, ◌⊎◌, inl, inr, ℤ, pos, negsuc, Bool, true, false, cond, List, [], ◌∷◌, length, Option, Some, None, refl, sym, ap, ◌∙◌, arith}
+use Rattle.std.specs.Prelude.{slice_set, replicate, nat_lt}
+use Rattle.std.proofs.lemmas.Int.{ints}
+use Rattle.std.proofs.lemmas.Bool.Decides.{nat_tests}
 use Rattle.std.proofs.lemmas.Bool.{and_from, or_right, le-leb, eq-eqb, cases_eq, cases_lt}
 use Rattle.std.proofs.lemmas.List.{length-replicate, length-set}
-use Rattle.gimple_ir.specs.declared.types.Operand.{Operand}
+use Rattle.gimple_ir.specs.declared.types.ScalarType.{ScalarType}
+use Rattle.gimple_ir.specs.declared.types.ScalarType.TheVariants.{Int, UnsignedInt, LongInt, LongUnsignedInt}
 use Rattle.gimple_ir.specs.declared.types.Operand.TheVariants.{Component, Literal}
 use Rattle.gimple_ir.specs.declared.types.Value.{Value}
 use Rattle.gimple_ir.specs.declared.versioned.VersionedFunction.{VersionedFunction}
-use Rattle.gimple_meaning.specs.Acts.{cell, value_at}
+use Rattle.gimple_meaning.specs.Acts.{low_byte, cell}
+use Rattle.rv64_isa.specs.Format.{residue}
 use Rattle.rv64_isa.proofs.FormatLaws.{residue_lt}
-use Rattle.rv64_meaning.specs.Machine.{Segments, load, store, in_text, in_data}
+use Rattle.rv64_meaning.specs.Arithmetic.{bits64}
+use Rattle.rv64_meaning.specs.Machine.{load, store, in_text, in_data}
 use Rattle.rv64_meaning.proofs.MemoryLaws.{load_same, load_apart}
 use Rattle.rv64_frame.specs.Frames.{component_slot, return_slot}
 use Rattle.rv64_select.specs.Templates.{machine_form}
-use Rattle.follow_laws.specs.Frames.{form_of, FrameHeld, FreshHeld, StoreApart, StoreSets, OperandHeld, DataReached}
+use Rattle.follow_laws.specs.Frames.{LowByteKept, form_of, FrameHeld, FreshHeld, StoreApart, StoreSets, OperandHeld, DataReached}
+
+-- ---- bytes
+
+low_bits : (z : ℤ) → bits64 z % 2 ^ 8 ≡ low_byte z
+low_bits (pos n) = grind (arith, nat_tests, ints)
+low_bits (negsuc n) = grind (arith, nat_tests, ints)
+
+-- the low byte through a sign, by whether the number is below the half
+signed_low : (b : Bool) (half n : ℕ) → half ≤ 2 ^ 63 → half % 256 ≡ 0 → n < half + half → bits64 (cond b (pos n) (negsuc (half + half - 1 - n))) % 2 ^ 8 ≡ n % 2 ^ 8
+signed_low true half n h e l = omega arith
+signed_low false half n h e l = omega arith
+
+low_32 : (z : ℤ) → residue (2 ^ 32) z % 2 ^ 8 ≡ bits64 z % 2 ^ 8
+low_32 (pos n) = omega arith
+low_32 (negsuc n) = omega arith
+
+form_low : (type : ScalarType) (z : ℤ) → bits64 (machine_form type z) % 2 ^ 8 ≡ low_byte z
+form_low Int z = let n = residue (2 ^ 32) z in signed_low (nat_lt n (2 ^ 31)) (2 ^ 31) n (omega arith) refl (residue_lt (2 ^ 32) z (omega arith)) ∙ low_32 z ∙ low_bits z
+form_low UnsignedInt z = let n = residue (2 ^ 32) z in signed_low (nat_lt n (2 ^ 31)) (2 ^ 31) n (omega arith) refl (residue_lt (2 ^ 32) z (omega arith)) ∙ low_32 z ∙ low_bits z
+form_low LongInt z = let n = residue (2 ^ 64) z in signed_low (nat_lt n (2 ^ 63)) (2 ^ 63) n (omega arith) refl (residue_lt (2 ^ 64) z (omega arith)) ∙ low_bits z
+form_low LongUnsignedInt z = let n = residue (2 ^ 64) z in signed_low (nat_lt n (2 ^ 63)) (2 ^ 63) n (omega arith) refl (residue_lt (2 ^ 64) z (omega arith)) ∙ low_bits z
+
+pub low_byte_kept : LowByteKept
+low_byte_kept z = (low_bits z, λ type. form_low type z)
 
 -- ---- components
 
@@ -73,7 +102,7 @@ slot_set f mem base ret cells i v h j w e =
     ]
   where
     apart : (i j : ℕ) → i ≢ j → ((base + component_slot f j + 8 ≤ base + component_slot f i) ⊎ (base + component_slot f i + 8 ≤ base + component_slot f j))
-    apart i j other = elim (cases_lt i j) [ | inl less ↦ inr (slot_before f base i j less) | inr more ↦ inl (slot_before f base j i (omega (arith, more, other))) ]
+    apart i j other = elim (cases_lt i j) [ inl less ↦ inr (slot_before f base i j less) | inr more ↦ inl (slot_before f base j i (omega (arith, more, other))) ]
 
 pub store_sets : StoreSets
 store_sets f mem base ret cells i v h inside = record {

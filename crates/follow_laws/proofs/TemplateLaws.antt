@@ -84,7 +84,7 @@ word_is : (c : ℤ) → IsSigned (2 ^ 32) c → is_signed_in 32 c ≡ true
 word_is (pos k) h = lt-ltb k (2 ^ 31) (omega arith)
 word_is (negsuc k) h = lt-ltb k (2 ^ 31) (omega arith)
 
-wide_32 : (c : ℤ) → IsSigned (2 ^ 32) c → IsSigned (2 ^ 64) c
+pub wide_32 : (c : ℤ) → IsSigned (2 ^ 32) c → IsSigned (2 ^ 64) c
 wide_32 (pos k) h = omega arith
 wide_32 (negsuc k) h = omega arith
 

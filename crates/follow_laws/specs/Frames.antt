@@ -1,10 +1,11 @@
 -- A frame of a program in the machine's memory: each component that is set has its machine form in its slot, and the return address
 -- lies in the slot behind them.
-use Rattle.std.specs.Prelude.{◌≡◌, ℕ, ◌+◌, ◌%◌, ◌<◌, ◌≤◌, ◌⊎◌, true, List, length, Option, Some, None, slice_set, replicate}
+use Rattle.std.specs.Prelude.{◌≡◌, ℕ, ◌+◌, ◌%◌, ◌^◌, ℤ, ◌<◌, ◌≤◌, ◌⊎◌, true, List, length, Option, Some, None, slice_set, replicate}
+use Rattle.gimple_ir.specs.declared.types.ScalarType.{ScalarType}
 use Rattle.gimple_ir.specs.declared.types.Operand.{Operand}
 use Rattle.gimple_ir.specs.declared.types.Value.{Value}
 use Rattle.gimple_ir.specs.declared.versioned.VersionedFunction.{VersionedFunction}
-use Rattle.gimple_meaning.specs.Acts.{cell, value_at}
+use Rattle.gimple_meaning.specs.Acts.{low_byte, cell, value_at}
 use Rattle.rv64_meaning.specs.Arithmetic.{bits64}
 use Rattle.rv64_meaning.specs.Machine.{Segments, State, load, store, can_load, can_store}
 use Rattle.rv64_abi.specs.Registers.{sp}
@@ -15,6 +16,10 @@ use Rattle.follow_laws.specs.Selections.{operand_bits}
 -- the 64 bits of a value
 abbrev pub form_of : Value → ℕ
 form_of v = bits64 (machine_form v.ty v.num)
+
+-- the low 8 bits of a number are those of its 64 bits, and those of its machine form in any type
+abbrev pub LowByteKept : Type 0
+LowByteKept = (number : ℤ) → (bits64 number % 2 ^ 8 ≡ low_byte number) × ((type : ScalarType) → bits64 (machine_form type number) % 2 ^ 8 ≡ low_byte number)
 
 -- the components of a frame of a function, from an address up, and the address that it returns to
 pub record FrameHeld (f : VersionedFunction) (mem : ℕ → ℕ) (base ret : ℕ) (cells : List (Option Value)) : Type 0 where

@@ -33,3 +33,7 @@ ImageLoads = (main frame : ℕ) (code : List Instr) → IsSmall frame code → l
 -- each instruction has 4 bytes
 abbrev pub CodeHasWords : Type 0
 CodeHasWords = (code : List Instr) → length (code_bytes code) ≡ 4 * length code
+
+-- the bytes of code behind other code
+abbrev pub CodeJoins : Type 0
+CodeJoins = (front back : List Instr) → code_bytes (front ++ back) ≡ code_bytes front ++ code_bytes back

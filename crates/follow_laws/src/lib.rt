@@ -9,8 +9,8 @@
 
 ghost use Rattle.follow_laws.specs.Effects.{ConstantSets, LoadSets, StoreStores, CallGoes, EnterMakesFrame, LeaveReturns, StartCalls, ExitEnds, PutcharWrites, GetcharReads};
 ghost use Rattle.follow_laws.specs.Encodings.{ConstantEncodes, LoadEncodes, StoreEncodes, CallEncodes, EnterEncodes, LeaveEncodes, StubsEncode, BothEncode};
-ghost use Rattle.follow_laws.specs.Frames.{FreshHeld, StoreApart, StoreSets, OperandHeld, DataReached};
-ghost use Rattle.follow_laws.specs.Images.{ImageLoads, ImageHasSegments, ImageHasCode, CodeHasWords};
+ghost use Rattle.follow_laws.specs.Frames.{LowByteKept, FreshHeld, StoreApart, StoreSets, OperandHeld, DataReached};
+ghost use Rattle.follow_laws.specs.Images.{ImageLoads, ImageHasSegments, ImageHasCode, CodeHasWords, CodeJoins};
 ghost use Rattle.follow_laws.specs.Laws.{ComesOn, LeadsOn, LeadsTwice, LeadsComes, ComesToLead, ComesToEnd, InstructionLeads, FrontStands, BackStands, FollowsBefore, SimulationFollows};
 ghost use Rattle.follow_laws.specs.Selections.{StepsStand, OperandSets, OperandEncodes};
 
@@ -57,6 +57,7 @@ pub fn images()
     ensures segments { ImageHasSegments }
     ensures code { ImageHasCode }
     ensures words { CodeHasWords }
+    ensures joined { CodeJoins }
 {}
 
 /// That the instructions of the templates and the stubs have words.
@@ -80,6 +81,7 @@ pub fn selections()
 
 /// What stores leave of a frame in memory, and what operands find in it.
 pub fn frames()
+    ensures low_byte { LowByteKept }
     ensures fresh { FreshHeld }
     ensures apart { StoreApart }
     ensures sets { StoreSets }

@@ -24,7 +24,7 @@ for how in claims cell; do
     for threads in 1 2 4; do
         time=$(fastest "$how" "$threads")
         awk -v how="$how" -v threads="$threads" -v count="$count" -v time="$time" 'BEGIN {
-            printf "%-6s by %d threads: %8.1f ms, %6.2f million a second\n", how, threads, time / 1e3, count / time
+            printf "%-6s threads %d: %8.1f ms, %6.2f million a second\n", how, threads, time / 1e3, count / time
         }'
     done
 done

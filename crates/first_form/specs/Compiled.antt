@@ -6,14 +6,11 @@ use Rattle.first_form.specs.declared.form.FirstForm.{FirstForm}
 use Rattle.first_form.specs.Form.{Spells, form_image}
 use Rattle.first_form.specs.Source.{program_of}
 
--- the bytes are the image of the program that the text spells; it can be loaded, and follows the program
+-- The bytes are the image of the program that the text spells. The image can be loaded, and it follows each program that the text
+-- spells, of which there is one.
 pub record IsImageOf (text image : List ℕ) : Type 0 where
   pub program : FirstForm
   pub spelled : Spells text program
   pub is_image : image ≡ form_image program
   pub loads : load_fault_of image ≡ None
-  pub follows : Follows image (program_of program)
-
--- the bytes follow each program that the text spells, of which there is one
-abbrev pub FollowsText : List ℕ → List ℕ → Type 0
-FollowsText text image = (form : FirstForm) → Spells text form → Follows image (program_of form)
+  pub follows : (form : FirstForm) → Spells text form → Follows image (program_of form)

@@ -7,6 +7,7 @@ use Rattle.gimple_ir.specs.declared.types.Function.{Function}
 use Rattle.gimple_ir.specs.declared.types.Program.{Program}
 use Rattle.gimple_ir.specs.declared.types.Statement.{Statement}
 use Rattle.gimple_ir.specs.declared.types.Statement.TheVariants.{Putchar, Return}
+use Rattle.gimple_ir.specs.Programs.{IsProgram}
 use Rattle.rv64_meaning.specs.Loading.{load_fault_of}
 use Rattle.follow_laws.specs.Follows.{Follows}
 use Rattle.first_form.specs.declared.form.FirstForm.{FirstForm}
@@ -26,6 +27,10 @@ function_of form =
 
 abbrev pub program_of : FirstForm → Program
 program_of form = record { arrays = []; functions = function_of form ∷ []; main = 0 }
+
+-- it is a well formed program of the source language
+abbrev pub FirstFormWellFormed : Type 0
+FirstFormWellFormed = (form : FirstForm) → All IsInt form.calls → IsInt form.status → IsProgram (program_of form)
 
 -- the image of each program of the first form can be loaded
 abbrev pub FirstFormLoads : Type 0

@@ -1,8 +1,9 @@
 // What is proved of every program of the first form: a function that does nothing, whose clauses are the laws.
-ghost use Rattle.first_form.specs.Source.{SpellsOnce, FirstFormLoads, FirstFormFollows};
+ghost use Rattle.first_form.specs.Source.{SpellsOnce, FirstFormWellFormed, FirstFormLoads, FirstFormFollows};
 
-/// The image of each program of the first form can be loaded and follows the program, and a text spells one program at most.
+/// Each program of the first form is well formed, and a text spells one at most; its image can be loaded, and follows it.
 pub fn first_form_follows()
+    ensures well_formed { FirstFormWellFormed }
     ensures once { SpellsOnce }
     ensures loads { FirstFormLoads }
     ensures follows { FirstFormFollows }

@@ -211,7 +211,11 @@ fn function_row(alloc: Global, case: u32) -> Result<(Function, Found), Fail> {
         6 => (
             [b"x".as_slice(), b"y"],
             true,
-            vec![in alloc; Statement::Label(0), call(alloc, Some(9)), Statement::Goto(0)]?,
+            vec![in alloc;
+                Statement::Label(0),
+                call(alloc, Some(9)),
+                Statement::Goto(0),
+            ]?,
             Some((TypeKind::UnknownName, 1)),
         ),
         7 => (
@@ -239,7 +243,10 @@ fn function_row(alloc: Global, case: u32) -> Result<(Function, Found), Fail> {
         _ => (
             [b"x".as_slice(), b"y"],
             true,
-            vec![in alloc; Statement::Label(0), switch(alloc, &[-2147483648, 0, 2147483647])?]?,
+            vec![in alloc;
+                Statement::Label(0),
+                switch(alloc, &[-2147483648, 0, 2147483647])?,
+            ]?,
             None,
         ),
     };

@@ -31,12 +31,14 @@ pub fn attempt<'a, F: FileStore>(
 {
     match read_words(words) {
         Some(Command::Cc { input, out }) => cc(alloc, input, out, files),
-        Some(Command::Run {
-            image,
-            steps,
-            input,
-            out,
-        }) => run(alloc, image, steps, input, out, files),
+        Some(
+            Command::Run {
+                image,
+                steps,
+                input,
+                out,
+            },
+        ) => run(alloc, image, steps, input, out, files),
         None => Err(Refusal::NoCommand),
     }
 }

@@ -10,7 +10,10 @@ use cursors::decimal;
 #[derive(Clone, Copy, Debug)]
 pub enum Command<'a> {
     /// Compiles the text `input` to the image `out`.
-    Cc { input: &'a str, out: &'a str },
+    Cc {
+        input: &'a str,
+        out: &'a str,
+    },
     /// Runs `image` for at most `steps` steps with the bytes of `input`, and writes its output to `out`.
     Run {
         image: &'a str,
@@ -27,7 +30,13 @@ pub fn read_words(words: &[String]) -> Option<Command<'_>>
 {
     match words {
         [verb, input, out] => cc(verb.as_str(), input.as_str(), out.as_str()),
-        [verb, image, steps, input, out] => run(verb.as_str(), image.as_str(), steps.as_str(), input.as_str(), out.as_str()),
+        [verb, image, steps, input, out] => run(
+            verb.as_str(),
+            image.as_str(),
+            steps.as_str(),
+            input.as_str(),
+            out.as_str(),
+        ),
         _ => None,
     }
 }
@@ -42,7 +51,13 @@ fn cc<'a>(verb: &str, input: &'a str, out: &'a str) -> Option<Command<'a>>
     }
 }
 
-fn run<'a>(verb: &str, image: &'a str, steps: &str, input: &'a str, out: &'a str) -> Option<Command<'a>>
+fn run<'a>(
+    verb: &str,
+    image: &'a str,
+    steps: &str,
+    input: &'a str,
+    out: &'a str,
+) -> Option<Command<'a>>
     ensures { option_map spoken_of result ≡ command_of (verb.now ∷ image.now ∷ steps.now ∷ input.now ∷ out.now ∷ []) }
 {
     if verb != "run" || !is_file_name(image) || !is_file_name(input) || !is_file_name(out) {

@@ -3,16 +3,18 @@ ghost use Rattle.std.specs.Prelude.{◌≡◌, IfOk, length, position, slice_get
 ghost use Rattle.gimple_ir.specs.Statements.{component_types};
 ghost use Rattle.gimple_ir.specs.CodeBound.{components_in, components_of, parameter_components};
 ghost use Rattle.gimple_meaning.specs.Source.{is_label, place_of, first_component};
+ghost use Rattle.gimple_meaning.specs.Tables.{ArePlaces, noted};
 
 use gimple_ir::{Function, NoMemory, ScalarType, Statement, Variable};
 use std::alloc::Global;
 use std::marker::Model;
 
-/// A function, which contracts see as itself.
+/// A function, which contracts see as itself. `places` has the places of its labels, as many as it lists.
 #[derive(Drop)]
 pub struct Layout<'a> {
     function: &'a Function,
     types: Vec<ScalarType>,
+    places: Vec<usize>,
 }
 
 impl<'a> Model for Layout<'a> {
@@ -24,7 +26,9 @@ impl<'a> Model for Layout<'a> {
 
     ghost view = { λ layout. layout.function.now };
 
-    ghost invariant = { λ layout. layout.types.items ≡ component_types layout.function.now.variables };
+    ghost use Rattle.gimple_meaning.specs.Tables.{ArePlaces};
+
+    ghost invariant = { λ layout. (layout.types.items ≡ component_types layout.function.now.variables) × ArePlaces layout.function.now.body 0 layout.places.items };
 }
 
 fn component_types(alloc: Global, variables: &[Variable]) -> Result<Vec<ScalarType>, NoMemory>
@@ -84,13 +88,41 @@ fn first_variables(variables: &[Variable], count: u32) -> &[Variable]
     }
 }
 
+fn note(places: &mut Vec<usize>, statement: &Statement, place: usize)
+    ensures { places.new.items ≡ noted places.old.items statement.now place }
+{
+    if let Statement::Label(label) = statement {
+        if (*label as usize) < places.len() {
+            places[*label as usize] = place;
+        }
+    }
+}
+
+fn label_places(alloc: Global, body: &[Statement], labels: usize) -> Result<Vec<usize>, NoMemory>
+    ensures { IfOk result (λ places. ArePlaces body.now 0 places.items) }
+{
+    let mut places = Vec::new(alloc);
+    places.resize(labels, body.len())?;
+    let mut place = body.len();
+    while place > 0 {
+        place -= 1;
+        note(&mut places, &body[place], place);
+    }
+    Ok(places)
+}
+
 impl<'a> Layout<'a> {
     /// The layout of a function.
     pub fn new(alloc: Global, function: &'a Function) -> Result<Layout<'a>, NoMemory>
         ensures { IfOk result (λ layout. layout ≡ function.now) }
     {
         let types = component_types(alloc, function.variables.as_slice())?;
-        Ok(Layout { function, types })
+        let places = label_places(alloc, function.body.as_slice(), function.labels.len())?;
+        Ok(Layout {
+            function,
+            types,
+            places,
+        })
     }
 
     /// The function.
@@ -111,7 +143,10 @@ impl<'a> Layout<'a> {
     pub fn place(&self, label: u32) -> usize
         ensures { result ≡ place_of self.now.body label }
     {
-        label_place(self.function.body.as_slice(), label)
+        match self.places.get(label as usize) {
+            Some(place) => *place,
+            None => label_place(self.function.body.as_slice(), label),
+        }
     }
 
     /// The number of a variable's first component; one that no `usize` holds is refused as want of memory.

@@ -3,18 +3,22 @@ ghost use Rattle.std.specs.Prelude.{◌≡◌, IfOk, length, position, slice_get
 ghost use Rattle.gimple_ir.specs.Statements.{component_types};
 ghost use Rattle.gimple_ir.specs.CodeBound.{components_in, components_of, parameter_components};
 ghost use Rattle.gimple_meaning.specs.Source.{is_label, place_of, first_component};
-ghost use Rattle.gimple_meaning.specs.Tables.{ArePlaces, noted};
+ghost use Rattle.gimple_meaning.specs.Tables.{AreFirsts, ArePlaces, noted};
 
 use gimple_ir::{Function, NoMemory, ScalarType, Statement, Variable};
 use std::alloc::Global;
 use std::marker::Model;
 
-/// A function, which contracts see as itself. `places` has the places of its labels, as many as it lists.
+/// A function, which contracts see as itself. `places` has the places of its labels, as many as it lists, and `firsts` the first
+/// component of each variable.
 #[derive(Drop)]
 pub struct Layout<'a> {
     function: &'a Function,
     types: Vec<ScalarType>,
     places: Vec<usize>,
+    firsts: Vec<usize>,
+    components: usize,
+    parameter_count: usize,
 }
 
 impl<'a> Model for Layout<'a> {
@@ -26,9 +30,11 @@ impl<'a> Model for Layout<'a> {
 
     ghost view = { λ layout. layout.function.now };
 
-    ghost use Rattle.gimple_meaning.specs.Tables.{ArePlaces};
+    ghost use Rattle.std.specs.Prelude.{length};
+    ghost use Rattle.gimple_ir.specs.CodeBound.{components_in, parameter_components};
+    ghost use Rattle.gimple_meaning.specs.Tables.{ArePlaces, AreFirsts};
 
-    ghost invariant = { λ layout. (layout.types.items ≡ component_types layout.function.now.variables) × ArePlaces layout.function.now.body 0 layout.places.items };
+    ghost invariant = { λ layout. (layout.types.items ≡ component_types layout.function.now.variables) × ArePlaces layout.function.now.body 0 layout.places.items × AreFirsts layout.function.now.variables layout.firsts.items × (length layout.firsts.items ≡ length layout.function.now.variables) × (layout.components ≡ components_in layout.function.now.variables) × (layout.parameter_count ≡ parameter_components layout.function.now) };
 }
 
 fn component_types(alloc: Global, variables: &[Variable]) -> Result<Vec<ScalarType>, NoMemory>
@@ -111,17 +117,40 @@ fn label_places(alloc: Global, body: &[Statement], labels: usize) -> Result<Vec<
     Ok(places)
 }
 
+fn first_components(alloc: Global, variables: &[Variable]) -> Result<Vec<usize>, NoMemory>
+    ensures firsts { IfOk result (λ firsts. AreFirsts variables.now firsts.items) }
+    ensures length { IfOk result (λ firsts. length firsts.items ≡ length variables.now) }
+{
+    let mut firsts = Vec::new(alloc);
+    let mut count = 0usize;
+    for variable in variables {
+        let Some(more) = count.checked_add(variable.types.len()) else {
+            return Err(NoMemory);
+        };
+        firsts.push(count)?;
+        count = more;
+    }
+    Ok(firsts)
+}
+
 impl<'a> Layout<'a> {
     /// The layout of a function.
     pub fn new(alloc: Global, function: &'a Function) -> Result<Layout<'a>, NoMemory>
         ensures { IfOk result (λ layout. layout ≡ function.now) }
     {
-        let types = component_types(alloc, function.variables.as_slice())?;
+        let variables = function.variables.as_slice();
+        let types = component_types(alloc, variables)?;
         let places = label_places(alloc, function.body.as_slice(), function.labels.len())?;
+        let firsts = first_components(alloc, variables)?;
+        let components = count_components(variables)?;
+        let parameter_count = count_components(first_variables(variables, function.parameters))?;
         Ok(Layout {
             function,
             types,
             places,
+            firsts,
+            components,
+            parameter_count,
         })
     }
 
@@ -149,11 +178,14 @@ impl<'a> Layout<'a> {
         }
     }
 
-    /// The number of a variable's first component; one that no `usize` holds is refused as want of memory.
-    pub fn first_component(&self, variable: u32) -> Result<usize, NoMemory>
-        ensures { IfOk result (λ first. first ≡ first_component self.now.variables variable) }
+    /// The number of a variable's first component.
+    pub fn first_component(&self, variable: u32) -> usize
+        ensures { result ≡ first_component self.now.variables variable }
     {
-        count_components(first_variables(self.function.variables.as_slice(), variable))
+        match self.firsts.get(variable as usize) {
+            Some(first) => *first,
+            None => self.components,
+        }
     }
 
     /// The number of a variable's components.
@@ -167,19 +199,16 @@ impl<'a> Layout<'a> {
     }
 
     /// The number of components.
-    pub fn components(&self) -> Result<usize, NoMemory>
-        ensures { IfOk result (λ count. count ≡ components_in self.now.variables) }
+    pub fn components(&self) -> usize
+        ensures { result ≡ components_in self.now.variables }
     {
-        count_components(self.function.variables.as_slice())
+        self.components
     }
 
     /// The number of parameters' components.
-    pub fn parameter_components(&self) -> Result<usize, NoMemory>
-        ensures { IfOk result (λ count. count ≡ parameter_components self.now) }
+    pub fn parameter_components(&self) -> usize
+        ensures { result ≡ parameter_components self.now }
     {
-        count_components(first_variables(
-            self.function.variables.as_slice(),
-            self.function.parameters,
-        ))
+        self.parameter_count
     }
 }

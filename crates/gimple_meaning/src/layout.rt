@@ -1,4 +1,4 @@
-//! A function as the interpreter takes it: with the type of each component laid out.
+//! A function as the interpreter takes it: with tables of its components and labels, so that a step searches for nothing.
 ghost use Rattle.std.specs.Prelude.{◌≡◌, IfOk, length, position, slice_get, sum_by, take};
 ghost use Rattle.gimple_ir.specs.Statements.{component_types};
 ghost use Rattle.gimple_ir.specs.CodeBound.{components_in, components_of, parameter_components};

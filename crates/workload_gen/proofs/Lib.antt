@@ -1,2 +1,5 @@
 pub mod Numbers
 pub mod FunctionNames
+pub mod Declaring
+pub mod Calling
+pub mod Placing

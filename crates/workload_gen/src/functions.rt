@@ -210,7 +210,7 @@ fn main_body(
         from: unsigned(0),
     })?;
     for tenth in 0..many {
-        let number = tenth * 10;
+        let number = 10 * tenth;
         let drawn = draws.draw(3);
         push_round(alloc, &mut body, places.place(number), number, drawn)?;
     }

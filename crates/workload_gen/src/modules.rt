@@ -90,7 +90,7 @@ fn push_definitions(
 ) -> Result<(), NoMemory>
     ensures { OnOk result (functions.new.items ≡ functions.old.items ++ definitions_from (place_in places.now.choices.now places.now.module_number) (50 * places.now.module_number) (own_choices places.now.choices.now places.now.module_number)) }
 {
-    let mut number = places.module_number * 50;
+    let mut number = 50 * places.module_number;
     for choice in places.own() {
         functions.push(definition(alloc, places, number, *choice)?)?;
         number += 1;

@@ -1,5 +1,6 @@
 //! Where the functions of a module stand in its list.
 ghost use Rattle.std.specs.Prelude.{◌≡◌, ◌+◌, ◌-◌, ◌*◌, ◌^◌, ◌<◌, ◌≤◌, ◌%◌, ◌&&◌, nat_eq, ◌++◌, ◌∷◌, [], cond, IfOk, OnOk, length};
+ghost use Rattle.std.specs.List.{list_any};
 ghost use Rattle.workload_gen.specs.Modules.{calls_function, own_choices, has_call_to, is_declared, declared_below, place_in};
 ghost use Rattle.workload_gen.specs.Places.{AreForward, IsCalled, AreCounts, Reaches};
 
@@ -144,8 +145,13 @@ fn is_declared(own: &[Choice], module_number: u32, number: u32) -> bool
 fn is_called(own: &[Choice], module_number: u32, number: u32) -> bool
     ensures { result ≡ has_call_to own.now module_number number }
 {
+    some_calls(own, number) || is_called_by_main(module_number, number)
+}
+
+fn some_calls(own: &[Choice], number: u32) -> bool
+    ensures { result ≡ list_any (calls_function number) own.now }
+{
     own.iter().any(|choice| calls_function(*choice, number))
-        || is_called_by_main(module_number, number)
 }
 
 fn is_called_by_main(module_number: u32, number: u32) -> bool

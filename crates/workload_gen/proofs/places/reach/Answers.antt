@@ -1,0 +1,18 @@
+use Rattle.std.proofs.Common.{◌≡◌, ◌+◌, ◌*◌, ◌≤◌, length, sym, ap, subst, ◌∙◌, arith}
+use Rattle.workload_gen.specs.Modules.{own_choices}
+use Rattle.workload_gen.specs.Places.{Reaches}
+use Rattle.workload_gen.proofs.Calling.{length-own_choices, Reaches-all, Reaches-near}
+use Rattle.workload_gen.proofs.places.reach.Goals as goal
+
+pub overflow_sub-count : goal.overflow_sub-count
+overflow_sub-count c = omega (arith, length-own_choices c.args.choices.now c.args.module_number, c.requires.ended, c.requires.some)
+
+pub returns-then-module_number-eq0-clause-after : goal.returns-then-module_number-eq0-clause-after
+returns-then-module_number-eq0-clause-after c = omega (arith, length-own_choices c.args.choices.now c.args.module_number, c.requires.ended, c.requires.some)
+
+pub returns-else-module_number-eq0-clause-reaches : goal.returns-else-module_number-eq0-clause-reaches
+returns-else-module_number-eq0-clause-reaches c =
+    Reaches-near c.args.choices.now c.args.module_number _ c.requires.forward c.if-module_number-eq0.false (omega (arith, c.min.ensures, c.requires.ended)) c.requires.some
+
+pub returns-else-module_number-eq0-clause-within : goal.returns-else-module_number-eq0-clause-within
+returns-else-module_number-eq0-clause-within c = omega (arith, length-own_choices c.args.choices.now c.args.module_number, c.requires.ended, c.requires.some)

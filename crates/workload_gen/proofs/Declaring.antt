@@ -8,7 +8,7 @@ use Rattle.workload_gen.specs.declared.choices.Choice.{Choice}
 use Rattle.workload_gen.specs.Modules.{is_declared, declared_below}
 use Rattle.workload_gen.specs.Places.{AreCounts}
 
-range_with_len-more : (n : ℕ) → range_with_len 0 (n + 1) ≡ range_with_len 0 n ++ n ∷ []
+pub range_with_len-more : (n : ℕ) → range_with_len 0 (n + 1) ≡ range_with_len 0 n ++ n ∷ []
 range_with_len-more n =
     let e = map-range_with_len_more (λ (x : ℕ). x) 0 n n (omega arith) in
     sym (map-id (range_with_len 0 (n + 1))) ∙ e ∙ ap (λ xs. xs ++ n ∷ []) (map-id (range_with_len 0 n))

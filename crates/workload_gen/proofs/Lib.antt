@@ -3,3 +3,4 @@ pub mod FunctionNames
 pub mod Declaring
 pub mod Calling
 pub mod Placing
+pub mod Listing

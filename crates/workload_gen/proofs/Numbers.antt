@@ -33,3 +33,16 @@ pub first_choices_all : (seed count many : ℕ) (choices : List Choice) → many
     → choices ≡ first_choices seed count many → choices ≡ choices_of seed count
 unfolding choices_of
 first_choices_all seed count many choices e c = c ∙ ap (first_choices seed count) e
+
+-- ---- calls go forward
+
+draw_below : (state others bound : ℕ) → 0 < bound → draw state others bound < bound
+draw_below state others bound some = mod-lt (next (after others state) / 2 ^ 33) some
+
+call_of-callee : (count number state : ℕ) (call : Call) → calls_of count number state ≡ Some call
+    → (nat_lt (number + 1) count ≡ true) × (call ≡ call_of count number state)
+unfolding calls_of
+call_of-callee count number state call e = ?
+
+pub choices_forward : (seed count : ℕ) (choices : List Choice) → choices ≡ first_choices seed count count → AreForward choices
+choices_forward seed count choices is = ?

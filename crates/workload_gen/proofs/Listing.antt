@@ -1,5 +1,5 @@
 -- Lists of functions and statements, one element after the other.
-use Rattle.std.proofs.Common.{◌≡◌, ℕ, zero, suc, ◌+◌, ◌*◌, ◌%◌, ◌<◌, ◌≤◌, List, [], ◌∷◌, ◌++◌, length, take, Bool, true, ◌||◌, ◌&&◌, nat_eq, Option, Some, None, refl, arith, add-one, eq-eqb, sym, ap, ap₂, subst, ◌∙◌, append_assoc}
+use Rattle.std.proofs.Common.{◌≡◌, ℕ, zero, suc, ◌+◌, ◌*◌, ◌%◌, ◌<◌, ◌≤◌, List, [], ◌∷◌, ◌++◌, length, take, Bool, true, ◌||◌, ◌&&◌, nat_eq, Option, Some, None, refl, arith, add-one, eq-eqb, sym, ap, ap₂, subst, ◌∙◌, append_assoc, map, max}
 use Rattle.std.specs.List.{slice_index_or, range_with_len, flat_map, list_any}
 use Rattle.std.specs.Option.{IfSome}
 use Rattle.std.proofs.lemmas.List.{take_more, length-take-le}
@@ -15,9 +15,11 @@ use Rattle.gimple_ir.specs.declared.types.BinaryOp.TheVariants.{Xor}
 use Rattle.gimple_ir.specs.declared.types.Operand.TheVariants.{Component}
 use Rattle.gimple_ir.specs.declared.types.Statement.TheVariants.{Binary, Copy}
 use Rattle.workload_gen.specs.Draws.{next, after, draw}
-use Rattle.workload_gen.specs.Choices.{unsigned}
-use Rattle.workload_gen.specs.Functions.{call_to, definition, round, rounds, main_end, main_body}
-use Rattle.workload_gen.specs.Modules.{definitions_from, calls_function, own_choices, has_call_to}
+use Rattle.std.proofs.lemmas.List.FromFn.{map-range_with_len_more, length-map-range_with_len}
+use Rattle.gimple_ir.specs.declared.types.Module.{Module}
+use Rattle.workload_gen.specs.Choices.{unsigned, start, choices_of}
+use Rattle.workload_gen.specs.Functions.{call_to, declaration, definition, round, rounds, main_end, main_body}
+use Rattle.workload_gen.specs.Modules.{declared_below, place_in, main_in, functions_of, module_of, modules_of, definitions_from, calls_function, own_choices, has_call_to}
 use Rattle.workload_gen.specs.Places.{AreForward, IsCalled}
 use Rattle.workload_gen.proofs.Declaring.{range_with_len-more}
 use Rattle.workload_gen.proofs.Calling.{length-own_choices, get_or-own_choices}
@@ -133,3 +135,43 @@ pub main_whole : (place : ℕ → ℕ) (state count n : ℕ) (made whole : List 
 unfolding main_body
 main_whole place state count n made whole all is_made is_whole =
     is_whole ∙ ap (λ xs. xs ++ main_end) is_made ∙ ap (λ (k : ℕ). Copy 0 (unsigned 0) ∷ (rounds place state k ++ main_end)) all
+
+-- ---- whole modules
+
+-- all functions of a module, as they were appended
+pub functions_whole : (choices given : List Choice) (state m number : ℕ) (numbers : List ℕ) (none made more whole : List Function)
+    → given ≡ choices → number ≡ m → numbers ≡ declared_below (own_choices given number) number (length given) → none ≡ []
+    → made ≡ none ++ map declaration numbers
+    → more ≡ made ++ definitions_from (place_in given number) (50 * number) (own_choices given number)
+    → whole ≡ more ++ main_in given state number → whole ≡ functions_of choices state m
+unfolding functions_of
+functions_whole choices given state m number numbers none made more whole are is listed empty is_made is_more is_whole =
+    let front : made ≡ map declaration (declared_below (own_choices given number) number (length given)) =
+      is_made ∙ ap (λ xs. xs ++ map declaration numbers) empty ∙ ap (map declaration) listed in
+    let e : whole ≡ functions_of given state number =
+      is_whole ∙ ap (λ xs. xs ++ main_in given state number) (is_more ∙ ap (λ xs. xs ++ definitions_from (place_in given number) (50 * number) (own_choices given number)) front)
+      ∙ append_assoc (map declaration (declared_below (own_choices given number) number (length given))) (definitions_from (place_in given number) (50 * number) (own_choices given number)) (main_in given state number) in
+    e ∙ ap (λ (xs : List Choice). functions_of xs state number) are ∙ ap (functions_of choices state) is
+
+-- the first modules
+abbrev pub first_modules : List Choice → ℕ → ℕ → List Module
+first_modules choices state many = map (module_of choices state) (range_with_len 0 many)
+
+pub first_modules_more : (choices : List Choice) (state n : ℕ) (one : Module) (made after_it : List Module)
+    → one ≡ module_of choices state n → made ≡ first_modules choices state n → after_it ≡ made ++ one ∷ []
+    → after_it ≡ first_modules choices state (n + 1)
+first_modules_more choices state n one made after_it is is_made is_after =
+    is_after ∙ ap (λ xs. xs ++ one ∷ []) is_made ∙ ap (λ (x : Module). first_modules choices state n ++ x ∷ []) is
+    ∙ sym (map-range_with_len_more (module_of choices state) 0 n n (omega arith))
+
+pub first_modules_all : (seed count many state : ℕ) (choices : List Choice) (made : List Module)
+    → many ≡ max 1 (div_ceil count 50) → state ≡ start seed count count → choices ≡ choices_of seed count
+    → made ≡ first_modules choices state many → made ≡ modules_of seed count
+unfolding modules_of
+first_modules_all seed count many state choices made all is are is_made =
+    is_made ∙ ap (first_modules choices state) all ∙ ap (λ (s : ℕ). first_modules choices s (max 1 (div_ceil count 50))) is
+    ∙ ap (λ (xs : List Choice). first_modules xs (start seed count count) (max 1 (div_ceil count 50))) are
+
+pub length-choices_of : (seed count : ℕ) → length (choices_of seed count) ≡ count
+unfolding choices_of
+length-choices_of seed count = length-map-range_with_len _ 0 count

@@ -47,14 +47,17 @@ own_choices choices module_number = take 50 (drop (50 * module_number) choices)
 abbrev pub place_in : List Choice → ℕ → ℕ → ℕ
 place_in choices module_number = place_of (own_choices choices module_number) module_number (length choices)
 
--- `main` is drawn from the state after all functions
+-- `main`, which is drawn from the state after all functions, where the module is the first
+unfoldable pub main_in : List Choice → ℕ → ℕ → List Function
+main_in choices state module_number =
+    if nat_eq module_number 0 then main_of (place_in choices module_number) (length choices) state ∷ [] else []
+
 unfoldable pub functions_of : List Choice → ℕ → ℕ → List Function
 functions_of choices state module_number =
     let own = own_choices choices module_number in
-    let place = place_in choices module_number in
     map declaration (declared_below own module_number (length choices))
-    ++ (definitions_from place (50 * module_number) own
-      ++ (if nat_eq module_number 0 then main_of place (length choices) state ∷ [] else []))
+    ++ (definitions_from (place_in choices module_number) (50 * module_number) own
+      ++ main_in choices state module_number)
 
 unfoldable pub module_of : List Choice → ℕ → ℕ → Module
 module_of choices state module_number =

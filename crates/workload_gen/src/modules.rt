@@ -1,7 +1,7 @@
 //! Modules of generated functions.
 ghost use Rattle.std.specs.Prelude.{◌≡◌, ◌+◌, ◌*◌, ◌^◌, ◌<◌, ◌≤◌, ◌++◌, map, IfOk, OnOk, length};
 ghost use Rattle.workload_gen.specs.Functions.{declaration};
-ghost use Rattle.workload_gen.specs.Modules.{definitions_from, functions_of, module_of, modules_of, own_choices, place_in};
+ghost use Rattle.workload_gen.specs.Modules.{definitions_from, functions_of, main_in, module_of, modules_of, own_choices, place_in};
 ghost use Rattle.workload_gen.specs.Places.{AreForward};
 
 use crate::choices::{Choice, choices};
@@ -51,7 +51,7 @@ fn module_of(
 fn functions_of(
     alloc: Global,
     choices: &[Choice],
-    mut draws: Draws,
+    draws: Draws,
     module_number: u32,
 ) -> Result<List<Function>, NoMemory>
     requires numbered { length choices.now < 2 ^ 32 }
@@ -64,9 +64,7 @@ fn functions_of(
     let mut functions = Vec::with_capacity(alloc, places.declared.len() + own.len() + 1)?;
     push_declarations(alloc, &mut functions, places.declared.as_slice())?;
     push_definitions(alloc, &mut functions, &places)?;
-    if module_number == 0 {
-        functions.push(main_function(alloc, &places, &mut draws)?)?;
-    }
+    push_main(alloc, &mut functions, &places, draws)?;
     Ok(List::from_vec(functions))
 }
 
@@ -94,6 +92,22 @@ fn push_definitions(
     for choice in places.own() {
         functions.push(definition(alloc, places, number, *choice)?)?;
         number += 1;
+    }
+    Ok(())
+}
+
+/// Appends `main` if the module is the first.
+#[tactic(auto, unfolding(crate::specs::Modules::main_in))]
+fn push_main(
+    alloc: Global,
+    functions: &mut Vec<Function>,
+    places: &Places<'_>,
+    mut draws: Draws,
+) -> Result<(), NoMemory>
+    ensures { OnOk result (functions.new.items ≡ functions.old.items ++ main_in places.now.choices.now draws.state places.now.module_number) }
+{
+    if places.module_number == 0 {
+        functions.push(main_function(alloc, places, &mut draws)?)?;
     }
     Ok(())
 }

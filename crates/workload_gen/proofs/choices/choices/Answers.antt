@@ -1,6 +1,6 @@
 use Rattle.std.proofs.Common.{◌∙◌, sym, ap, arith}
 use Rattle.workload_gen.specs.Choices.{after_choice}
-use Rattle.workload_gen.proofs.Numbers.{start-first, start-next, first_choices_more, first_choices_all}
+use Rattle.workload_gen.proofs.Numbers.{start-first, start-next, first_choices_more, first_choices_all, first_choices_forward}
 use Rattle.workload_gen.proofs.choices.choices.Goals as goal
 
 pub loop-number-init : goal.loop-number-init
@@ -19,3 +19,7 @@ loop-number-preserved c =
 pub returns-clause-value : goal.returns-clause-value
 returns-clause-value c =
     first_choices_all c.args.draws.now.state c.args.count c.loop-number.number _ (omega (arith, c.loop-number.auto.number-end, c.loop-number-test.false)) c.loop-number.invariant.1
+
+pub returns-clause-forward : goal.returns-clause-forward
+returns-clause-forward c =
+    first_choices_forward c.args.draws.now.state c.args.count c.loop-number.number _ (omega (arith, c.loop-number.auto.number-end, c.loop-number-test.false)) c.loop-number.invariant.1

@@ -1,16 +1,16 @@
 -- Which functions a module calls: those of its own that stand later, and up to seven further; and all tenth ones.
-use Rattle.std.proofs.Common.{◌≡◌, ℕ, zero, suc, ◌+◌, ◌*◌, ◌-◌, ◌/◌, ◌%◌, ◌<◌, ◌≤◌, List, [], length, take, drop, min, Bool, true, false, not, ◌&&◌, ◌||◌, nat_eq, Option, Some, None, refl, arith, sym, ap, subst, ◌∙◌, inl, inr}
+use Rattle.std.proofs.Common.{◌≡◌, ℕ, zero, suc, ◌+◌, ◌*◌, ◌-◌, ◌/◌, ◌%◌, ◌<◌, ◌≤◌, List, [], length, drop, min, Bool, true, false, not, ◌&&◌, ◌||◌, nat_eq, Option, Some, None, refl, arith, sym, ap, ◌∙◌, inl, inr}
 use Rattle.std.specs.List.{list_any, slice_index_or}
 use Rattle.std.specs.Option.{option_map_or}
 use Rattle.std.proofs.lemmas.Bool.{eqb-true, eq-eqb, ne_eqb}
 use Rattle.std.proofs.lemmas.Bool.Decides.{eqb_tells}
-use Rattle.std.proofs.lemmas.List.{length-take, length-drop, get_or-take, get_or-drop, take_min}
-use Rattle.std.proofs.lemmas.List.Folds.{Any-from_list_any, list_any_at}
+use Rattle.std.proofs.lemmas.List.{length-take, length-drop, get_or-take, get_or-drop}
+use Rattle.std.proofs.lemmas.List.Folds.{Any-from_list_any}
 use Rattle.std.proofs.Math.Bool.{and-false}
 use Rattle.workload_gen.specs.declared.choices.Choice.{Choice}
 use Rattle.workload_gen.specs.declared.choices.Call.{Call}
-use Rattle.workload_gen.specs.Modules.{calls_function, own_choices, is_own, has_call_to, is_declared, declared_below}
-use Rattle.workload_gen.specs.Places.{IsForward, AreForward, IsCalled, Reaches}
+use Rattle.workload_gen.specs.Modules.{calls_function, own_choices, has_call_to, is_declared, declared_below}
+use Rattle.workload_gen.specs.Places.{AreForward, Reaches}
 use Rattle.workload_gen.proofs.Declaring.{declared_below-none, declared_below_same, DeclaresNone}
 
 pub length-own_choices : (choices : List Choice) (m : ℕ) → length (own_choices choices m) ≡ min 50 (length choices - 50 * m)
@@ -83,8 +83,8 @@ is_declared_before choices (suc m) j forward high =
       | inl e ↦ own_is_not_declared (has_call_to own (suc m) j) (nat_eq (j / 50) (suc m)) e.0
       | inr e ↦
           let none = false_where (has_call_to own (suc m) j) (λ h.
-            let ahead = called_elsewhere choices (suc m) j forward (omega arith) h in
-            e.1 (omega (arith, ahead.above, high, long))) in
+          let ahead = called_elsewhere choices (suc m) j forward (omega arith) h in
+          e.1 (omega (arith, ahead.above, high, long))) in
           uncalled_is_not_declared (has_call_to own (suc m) j) (nat_eq (j / 50) (suc m)) none
     ]
 
@@ -102,8 +102,8 @@ uncalled : (choices : List Choice) (m limit j : ℕ) → Reaches choices m limit
 uncalled choices m limit j reaches low there =
     let own = own_choices choices m in
     let none = false_where (has_call_to own m j) (λ h.
-      let below = reaches.each j (record { called = h; there = there }) in
-      absurd (omega (arith, below, low))) in
+    let below = reaches.each j (record { called = h; there = there }) in
+    absurd (omega (arith, below, low))) in
     uncalled_is_not_declared (has_call_to own m j) (nat_eq (j / 50) m) none
 
 pub declared_below-limit : (choices : List Choice) (m limit : ℕ) → Reaches choices m limit → limit ≤ length choices
@@ -126,9 +126,9 @@ pub Reaches-near : (choices : List Choice) (m limit : ℕ) → AreForward choice
     → 50 * m ≤ length choices → Reaches choices m limit
 Reaches-near choices m limit forward some e within = record {
   each = λ n h.
-    let ahead = called_elsewhere choices m n forward (above_none m some) h.called in
-    let long = length-own_choices choices m in
-    omega (arith, ahead.near, h.there, e, long, within)
+      let ahead = called_elsewhere choices m n forward (above_none m some) h.called in
+      let long = length-own_choices choices m in
+      omega (arith, ahead.near, h.there, e, long, within);
 }
 
 -- what a module calls does not stand before it

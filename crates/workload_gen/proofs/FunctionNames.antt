@@ -1,5 +1,5 @@
 -- The names of functions are names.
-use Rattle.std.proofs.Common.{◌≡◌, ℕ, zero, suc, ◌+◌, ◌∷◌, [], ◌++◌, ◌<◌, ◌≤◌, ◌^◌, ◌/◌, ◌%◌, length, List, All, arith}
+use Rattle.std.proofs.Common.{ℕ, zero, suc, ◌+◌, ◌∷◌, [], ◌<◌, ◌^◌, ◌%◌, All, arith}
 use Rattle.std.specs.Fmt.{decimal}
 use Rattle.std.specs.List.{slice_index_or}
 use Rattle.std.proofs.lemmas.Fmt.{decimal_by_steps, length-decimal-le}
@@ -25,5 +25,5 @@ name_of-IsName n small =
     record {
       some = omega arith;
       bounded = omega (arith, short);
-      printable = All-append IsPrintable (102 ∷ []) (decimal n) (single 102 (omega arith, omega arith)) (IsPrintable-decimal n (omega arith))
+      printable = All-append IsPrintable (102 ∷ []) (decimal n) (single 102 (omega arith, omega arith)) (IsPrintable-decimal n (omega arith));
     }

@@ -1,5 +1,5 @@
 -- Lists of functions and statements, one element after the other.
-use Rattle.std.proofs.Common.{◌≡◌, ℕ, zero, suc, ◌+◌, ◌*◌, ◌%◌, ◌<◌, ◌≤◌, List, [], ◌∷◌, ◌++◌, length, take, Bool, true, ◌||◌, ◌&&◌, nat_eq, Option, Some, None, refl, arith, add-one, eq-eqb, sym, ap, ap₂, subst, ◌∙◌, append_assoc, map, max}
+use Rattle.std.proofs.Common.{◌≡◌, ℕ, suc, ◌+◌, ◌*◌, ◌%◌, ◌<◌, List, [], ◌∷◌, ◌++◌, length, take, Bool, true, ◌||◌, ◌&&◌, nat_eq, Option, Some, None, refl, arith, add-one, eq-eqb, sym, ap, ◌∙◌, append_assoc, map, max}
 use Rattle.std.specs.List.{slice_index_or, range_with_len, flat_map, list_any}
 use Rattle.std.specs.Option.{IfSome}
 use Rattle.std.proofs.lemmas.List.{take_more, length-take-le}
@@ -19,7 +19,7 @@ use Rattle.std.proofs.lemmas.List.FromFn.{map-range_with_len_more, length-map-ra
 use Rattle.gimple_ir.specs.declared.types.Module.{Module}
 use Rattle.workload_gen.specs.Choices.{unsigned, start, choices_of}
 use Rattle.workload_gen.specs.Functions.{call_to, declaration, definition, round, rounds, main_end, main_body}
-use Rattle.workload_gen.specs.Modules.{declared_below, place_in, main_in, functions_of, module_of, modules_of, definitions_from, calls_function, own_choices, has_call_to}
+use Rattle.workload_gen.specs.Modules.{declared_below, place_in, main_in, functions_of, module_of, modules_of, definitions_from, calls_function, own_choices}
 use Rattle.workload_gen.specs.Places.{AreForward, IsCalled}
 use Rattle.workload_gen.proofs.Declaring.{range_with_len-more}
 use Rattle.workload_gen.proofs.Calling.{length-own_choices, get_or-own_choices}
@@ -44,7 +44,7 @@ own_calls choices m i d call forward inside is =
     let some = list_any_at (calls_function call.callee) own i d inside (calls_itself call (slice_index_or own i d) is) in
     record {
       called = called_by_some (list_any (calls_function call.callee) own) (nat_eq m 0 && nat_eq (call.callee % 10) 0) some;
-      there = goes.2
+      there = goes.2;
     }
 
 if_some : (P : Call → Type 0) (o : Option Call) → ((call : Call) → o ≡ Some call → P call) → IfSome o P
@@ -65,7 +65,7 @@ main_called choices m n first inside =
     let zeroth : nat_eq m 0 ≡ true = eq-eqb m 0 first in
     record {
       called = rw (zeroth, tenth) (or-true _);
-      there = inside
+      there = inside;
     }
 
 -- ---- one more
@@ -91,7 +91,7 @@ definitions_more place n i number own items d before made after are inside is is
     let x = slice_index_or items i d in
     let counted : n + length (take i own) ≡ number = omega (arith, long, is) in
     let more = ap (definitions_from place n) taken ∙ definitions_from-append place n (take i own) x
-      ∙ ap (λ (k : ℕ). definitions_from place n (take i own) ++ definition place k x ∷ []) counted in
+    ∙ ap (λ (k : ℕ). definitions_from place n (take i own) ++ definition place k x ∷ []) counted in
     is_after ∙ ap (λ xs. xs ++ definition place number x ∷ []) is_made
     ∙ append_assoc before (definitions_from place n (take i own)) (definition place number x ∷ [])
     ∙ ap (λ xs. before ++ xs) (sym more)
@@ -147,10 +147,10 @@ pub functions_whole : (choices given : List Choice) (state m number : ℕ) (numb
 unfolding functions_of
 functions_whole choices given state m number numbers none made more whole are is listed empty is_made is_more is_whole =
     let front : made ≡ map declaration (declared_below (own_choices given number) number (length given)) =
-      is_made ∙ ap (λ xs. xs ++ map declaration numbers) empty ∙ ap (map declaration) listed in
+    is_made ∙ ap (λ xs. xs ++ map declaration numbers) empty ∙ ap (map declaration) listed in
     let e : whole ≡ functions_of given state number =
-      is_whole ∙ ap (λ xs. xs ++ main_in given state number) (is_more ∙ ap (λ xs. xs ++ definitions_from (place_in given number) (50 * number) (own_choices given number)) front)
-      ∙ append_assoc (map declaration (declared_below (own_choices given number) number (length given))) (definitions_from (place_in given number) (50 * number) (own_choices given number)) (main_in given state number) in
+    is_whole ∙ ap (λ xs. xs ++ main_in given state number) (is_more ∙ ap (λ xs. xs ++ definitions_from (place_in given number) (50 * number) (own_choices given number)) front)
+    ∙ append_assoc (map declaration (declared_below (own_choices given number) number (length given))) (definitions_from (place_in given number) (50 * number) (own_choices given number)) (main_in given state number) in
     e ∙ ap (λ (xs : List Choice). functions_of xs state number) are ∙ ap (functions_of choices state) is
 
 -- the first modules

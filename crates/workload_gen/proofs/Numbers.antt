@@ -1,5 +1,5 @@
 -- States and choices, one function after the other.
-use Rattle.std.proofs.Common.{◌≡◌, ℕ, ◌+◌, ◌-◌, ◌/◌, ◌^◌, ◌<◌, ◌≤◌, Bool, true, false, if◌then◌else◌, nat_lt, min, Option, Some, None, length, List, [], ◌∷◌, ◌++◌, map, refl, arith, add-one, sym, ap, ◌∙◌}
+use Rattle.std.proofs.Common.{◌≡◌, ℕ, ◌+◌, ◌-◌, ◌/◌, ◌^◌, ◌<◌, ◌≤◌, Bool, true, false, if◌then◌else◌, nat_lt, min, Some, None, length, List, [], ◌∷◌, ◌++◌, map, refl, arith, add-one, sym, ap, ◌∙◌}
 use Rattle.std.specs.List.{range_with_len, slice_index_or}
 use Rattle.std.proofs.lemmas.Bool.{ltb-true}
 use Rattle.std.proofs.Math.Nat.{mod-lt}

@@ -1,11 +1,10 @@
 -- Places of the functions that a module calls.
-use Rattle.std.proofs.Common.{◌≡◌, ℕ, ◌+◌, ◌*◌, ◌-◌, ◌/◌, ◌%◌, ◌<◌, ◌≤◌, List, length, map, Bool, true, false, if◌then◌else◌, nat_eq, refl, arith, sym, ap, subst, ◌∙◌, inl, inr}
-use Rattle.std.specs.List.{range_with_len, slice_index_or}
+use Rattle.std.proofs.Common.{◌≡◌, ℕ, ◌+◌, ◌*◌, ◌-◌, ◌/◌, ◌%◌, ◌<◌, ◌≤◌, List, length, true, false, if◌then◌else◌, nat_eq, arith, sym, ap, subst, ◌∙◌}
+use Rattle.std.specs.List.{slice_index_or}
 use Rattle.std.proofs.lemmas.Bool.{eq-eqb, ne_eqb}
-use Rattle.std.proofs.lemmas.Bool.Decides.{eqb_tells}
 use Rattle.std.proofs.lemmas.List.FromFn.{get_or-map-range_with_len}
 use Rattle.workload_gen.specs.declared.choices.Choice.{Choice}
-use Rattle.workload_gen.specs.Modules.{own_choices, declared_below, has_call_to, place_of, place_in}
+use Rattle.workload_gen.specs.Modules.{own_choices, declared_below, place_of, place_in}
 use Rattle.workload_gen.specs.Places.{AreForward, IsCalled, AreCounts, Reaches}
 use Rattle.workload_gen.proofs.Declaring.{length-declared_below-le}
 use Rattle.workload_gen.proofs.Calling.{length-own_choices, declared_below-end, called_from}

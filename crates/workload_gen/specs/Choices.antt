@@ -2,7 +2,6 @@
 -- second, and, unless the function is the last, which later function it calls and whether it passes `b` or a number.
 use Rattle.std.specs.Prelude.{ℕ, ◌+◌, ◌-◌, zero, suc, pos, List, map, min, if◌then◌else◌, nat_eq, nat_lt, Option, Some, None}
 use Rattle.std.specs.List.{range_with_len}
-use Rattle.gimple_ir.specs.declared.types.ScalarType.{ScalarType}
 use Rattle.gimple_ir.specs.declared.types.ScalarType.TheVariants.{UnsignedInt}
 use Rattle.gimple_ir.specs.declared.types.BinaryOp.{BinaryOp}
 use Rattle.gimple_ir.specs.declared.types.BinaryOp.TheVariants.{Add, Sub, Mul, Xor}
@@ -42,7 +41,7 @@ module _ (count number : ℕ) where
         first = operator_of (draw state 0 4);
         constant = draw state 1 1000;
         second = operator_of (draw state 2 4);
-        call = calls_of (after 3 state)
+        call = calls_of (after 3 state);
       }
 
   unfoldable pub after_calls : ℕ → ℕ

@@ -1,6 +1,6 @@
 -- The functions that are generated. A call names its function by the place in the module's list, which `place` gives for
 -- each number.
-use Rattle.std.specs.Prelude.{ℕ, ◌+◌, ◌*◌, pos, List, [], ◌∷◌, ◌++◌, codes, decimal, Option, Some, None}
+use Rattle.std.specs.Prelude.{ℕ, ◌*◌, pos, List, [], ◌∷◌, ◌++◌, codes, decimal, Option, Some, None}
 use Rattle.std.specs.List.{range_with_len, flat_map}
 use Rattle.std.specs.Int.{div_ceil}
 use Rattle.gimple_ir.specs.declared.types.ScalarType.{ScalarType}
@@ -54,7 +54,7 @@ declaration number =
       parameters = 2;
       variables = parameters;
       labels = [];
-      body = []
+      body = [];
     }
 
 -- c = (int) t; __builtin_putchar (c); return 0;
@@ -84,7 +84,7 @@ module _ (place : ℕ → ℕ) where
         parameters = 2;
         variables = variables;
         labels = [];
-        body = body_of choice
+        body = body_of choice;
       }
 
   -- u = fI (Iu, 1u); t = t ^ u;
@@ -111,5 +111,5 @@ module _ (place : ℕ → ℕ) where
         parameters = 0;
         variables = main_variables;
         labels = [];
-        body = main_body count state
+        body = main_body count state;
       }

@@ -57,7 +57,7 @@ functions_of choices state module_number =
     let own = own_choices choices module_number in
     map declaration (declared_below own module_number (length choices))
     ++ (definitions_from (place_in choices module_number) (50 * module_number) own
-      ++ main_in choices state module_number)
+    ++ main_in choices state module_number)
 
 unfoldable pub module_of : List Choice → ℕ → ℕ → Module
 module_of choices state module_number =

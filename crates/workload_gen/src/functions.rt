@@ -136,11 +136,7 @@ fn binary(to: u32, op: BinaryOp, left: Operand, right: Operand) -> Statement
 }
 
 /// `r = a + 1u; s = b + r; s = fJ (r, b); r = r ^ s; return r;`, as it was drawn.
-fn body_of(
-    alloc: Global,
-    places: &Places<'_>,
-    choice: Choice,
-) -> Result<List<Statement>, NoMemory>
+fn body_of(alloc: Global, places: &Places<'_>, choice: Choice) -> Result<List<Statement>, NoMemory>
     requires { IfSome choice.call (λ call. IsCalled places.now.choices.now places.now.module_number call.callee) }
     ensures { IfOk result (λ body. body ≡ body_of (place_in places.now.choices.now places.now.module_number) choice) }
 {

@@ -13,7 +13,7 @@ loop-number-preserved c =
     let seed = c.args.draws.now.state in
     let state = c.loop-number.invariant.0 in (
       c.choice.ensures.state ∙ ap (after_choice count n) state ∙ sym (start-next seed count n),
-      first_choices_more seed count n c.loop-number.draws.state _ _ _ state c.choice.ensures.value c.loop-number.invariant.1 c.in_ok-push.ensures.items
+      first_choices_more seed count n c.loop-number.draws.state _ _ _ state c.choice.ensures.value c.loop-number.invariant.1 c.in_ok-push.ensures.items,
     )
 
 pub returns-clause-value : goal.returns-clause-value

@@ -1,4 +1,4 @@
-use Rattle.std.proofs.Common.{◌≡◌, ◌∷◌, length}
+use Rattle.std.proofs.Common.{◌≡◌, ◌∷◌}
 use Rattle.gimple_ir.specs.declared.types.Statement.TheVariants.{Copy}
 use Rattle.workload_gen.specs.Draws.{after}
 use Rattle.workload_gen.specs.Choices.{unsigned}

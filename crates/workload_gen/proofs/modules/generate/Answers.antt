@@ -1,4 +1,4 @@
-use Rattle.std.proofs.Common.{◌≡◌, ◌++◌, ◌∷◌, [], length, sym, ap, ◌∙◌, arith}
+use Rattle.std.proofs.Common.{length, ap, ◌∙◌, arith}
 use Rattle.workload_gen.specs.Modules.{module_of}
 use Rattle.workload_gen.proofs.Listing.{length-choices_of, first_modules_more, first_modules_all}
 use Rattle.workload_gen.proofs.modules.generate.Goals as goal

@@ -1,6 +1,5 @@
-use Rattle.std.proofs.Common.{◌≡◌, [], ◌+◌, ◌*◌, ◌++◌, ◌<◌, length, sym, ap, subst, ◌∙◌, arith, append-nil, ◌∷◌}
+use Rattle.std.proofs.Common.{[], ◌*◌, ◌++◌, sym, ap, ◌∙◌, arith, append-nil, ◌∷◌}
 use Rattle.workload_gen.specs.Modules.{own_choices, place_in}
-use Rattle.workload_gen.proofs.Calling.{length-own_choices}
 use Rattle.workload_gen.proofs.Listing.{own_called, definitions_more, definitions_none}
 use Rattle.workload_gen.proofs.modules.push_definitions.Goals as goal
 
@@ -26,5 +25,5 @@ loop-choice-preserved c =
     let made = c.in_ok-push.ensures.items ∙ ap (λ f. c.loop-choice.functions.items ++ f ∷ []) c.in_ok-definition.ensures in (
       omega (arith, number),
       definitions_more (place_in choices m) (50 * m) i c.loop-choice.number (own_choices choices m) _ _ c.args.functions.now.items _ _
-      c.own-choice-items.ensures c.loop-choice-test.true number c.loop-choice.invariant.1 made
+          c.own-choice-items.ensures c.loop-choice-test.true number c.loop-choice.invariant.1 made,
     )

@@ -1,7 +1,5 @@
-use Rattle.std.proofs.Common.{◌≡◌, ◌+◌, ◌*◌, ◌≤◌, length, sym, ap, subst, ◌∙◌, arith}
-use Rattle.workload_gen.specs.Modules.{own_choices}
-use Rattle.workload_gen.specs.Places.{Reaches}
-use Rattle.workload_gen.proofs.Calling.{length-own_choices, Reaches-all, Reaches-near}
+use Rattle.std.proofs.Common.{arith}
+use Rattle.workload_gen.proofs.Calling.{length-own_choices, Reaches-near}
 use Rattle.workload_gen.proofs.places.reach.Goals as goal
 
 pub overflow_sub-count : goal.overflow_sub-count

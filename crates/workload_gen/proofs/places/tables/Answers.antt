@@ -1,4 +1,4 @@
-use Rattle.std.proofs.Common.{◌≡◌, ◌+◌, ◌-◌, ◌≤◌, ◌∷◌, [], ◌++◌, length, cond, refl, sym, ap, ◌∙◌, arith}
+use Rattle.std.proofs.Common.{◌≡◌, ◌+◌, ◌-◌, ◌∷◌, [], ◌++◌, length, cond, refl, sym, ap, ◌∙◌, arith}
 use Rattle.workload_gen.specs.Modules.{declared_below, is_declared}
 use Rattle.workload_gen.proofs.Declaring.{declared_below-none, declared_below-more, length-declared_below-le, counts_of, counts_of-none, counts_of-more, length-counts_of, counts_of-AreCounts}
 use Rattle.workload_gen.proofs.places.tables.Goals as goal
@@ -31,7 +31,7 @@ loop-number-preserved c =
     let count : c.len.result ≡ length (declared_below own m n) = omega (arith, long, c.len.ensures) in (
       c.in_ok-declare.ensures ∙ ap (λ xs. xs ++ cond (is_declared own m n) (n ∷ []) []) declared ∙ sym (declared_below-more own m n),
       c.in_ok-push.ensures.items ∙ ap (λ xs. xs ++ c.len.result ∷ []) c.loop-number.invariant.1
-      ∙ ap (λ x. counts_of own m c.args.end (n - c.args.end) ++ x ∷ []) count ∙ sym (counts_of-more own m c.args.end n (n + 1) c.loop-number.auto.number refl)
+          ∙ ap (λ x. counts_of own m c.args.end (n - c.args.end) ++ x ∷ []) count ∙ sym (counts_of-more own m c.args.end n (n + 1) c.loop-number.auto.number refl),
     )
 
 pub returns-clause-before : goal.returns-clause-before

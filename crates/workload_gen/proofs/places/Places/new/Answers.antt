@@ -1,5 +1,5 @@
-use Rattle.std.proofs.Common.{◌≡◌, ◌+◌, ◌*◌, ◌≤◌, [], length, sym, ap, subst, ◌∙◌, arith}
-use Rattle.workload_gen.specs.Modules.{own_choices, declared_below}
+use Rattle.std.proofs.Common.{◌≡◌, ◌+◌, ◌*◌, [], length, sym, ap, subst, ◌∙◌, arith}
+use Rattle.workload_gen.specs.Modules.{declared_below}
 use Rattle.workload_gen.specs.Places.{AreCounts, Reaches}
 use Rattle.workload_gen.proofs.Calling.{length-own_choices, declared_below-end, declared_below-limit}
 use Rattle.workload_gen.proofs.places.Places.new.Goals as goal

@@ -1,4 +1,4 @@
-use Rattle.std.proofs.Common.{◌≡◌, ℕ, ◌+◌, ◌-◌, ◌*◌, ◌≤◌, ◌/◌, ◌%◌, length, sym, ap, subst, ◌∙◌, arith}
+use Rattle.std.proofs.Common.{length, ap, arith}
 use Rattle.workload_gen.proofs.Placing.{length-declared, place_in-own, place_in-other}
 use Rattle.workload_gen.proofs.places.Places.place.Goals as goal
 

@@ -103,18 +103,23 @@ fn no_calls(rt: HostRuntime) -> Result<(), Fail> {
     Ok(())
 }
 
-// Two calls.
-fn twice<R: Wait>(rt: &R, cell: &SharedCell<Swaps>, mut pass: Pass<Swaps>, from: u32) -> Pass<Swaps>
+// Two calls, with their replies.
+fn twice<R: Wait>(
+    rt: &R,
+    cell: &SharedCell<Swaps>,
+    mut pass: Pass<Swaps>,
+    from: u32,
+) -> (Pass<Swaps>, u32, u32)
     requires { IsPassOf cell.now pass × (pass.allowance ≡ 2) × (from < 100) }
-    ensures { IsPassOf cell.now result × (reserved_of result ≡ reserved_of pass) }
+    ensures { IsPassOf cell.now result.0 × (reserved_of result.0 ≡ reserved_of pass) }
 {
-    cell.call(rt, &mut pass, from);
-    cell.call(rt, &mut pass, from + 1);
-    pass
+    let first = cell.call(rt, &mut pass, from);
+    let second = cell.call(rt, &mut pass, from + 1);
+    (pass, first, second)
 }
 
-/// Two threads make two calls each: the history has the four, each thread's in its order, and each entry has the value
-/// that the one before wrote, as in one thread.
+/// Two threads make two calls each: the history has the four, each thread's in its order, and the replies are those of one
+/// thread: each is the value that the entry before wrote.
 #[test]
 fn two_threads(rt: HostRuntime) -> Result<(), Fail> {
     shared(&rt, rt.alloc())
@@ -129,6 +134,8 @@ fn shared<R: Threads + Wait + Abort + Sync>(rt: &R, alloc: Global) -> Result<(),
         || twice(rt, &cell, one, 10),
         || twice(rt, &cell, two, 20),
     );
+    let (one, first_of_one, second_of_one) = one;
+    let (two, first_of_two, second_of_two) = two;
     cell.join(&mut pass, one);
     cell.join(&mut pass, two);
     let (state, history) = cell.close(pass);
@@ -140,6 +147,20 @@ fn shared<R: Threads + Wait + Abort + Sync>(rt: &R, alloc: Global) -> Result<(),
         value = entry.value;
     }
     assert_eq!(rt; value, state.value);
+    let replies = [
+        (10, first_of_one),
+        (11, second_of_one),
+        (20, first_of_two),
+        (21, second_of_two),
+    ];
+    for (value, reply) in replies {
+        assert!(rt;
+            history
+                .as_slice()
+                .iter()
+                .any(|entry| entry.value == value && entry.before == reply)
+        );
+    }
     for from in [10, 20] {
         let first = history
             .as_slice()

@@ -15,6 +15,4 @@ pub use bound::code_bound;
 pub use check::{ModuleError, check_module};
 
 #[cfg(test)]
-mod item_tests;
-#[cfg(test)]
 mod tests;

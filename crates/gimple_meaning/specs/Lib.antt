@@ -9,3 +9,4 @@ pub mod Moves
 pub mod Stages
 pub mod StageView
 pub mod InterpView
+pub mod Tables

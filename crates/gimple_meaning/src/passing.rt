@@ -71,7 +71,7 @@ fn pass(
             Ok(())
         }
         Arg::Whole(variable) => {
-            let first = layout.first_component(variable)?;
+            let first = layout.first_component(variable);
             pass_whole(values, cells, first, layout.components_of(variable))
         }
     }
@@ -110,10 +110,8 @@ pub fn opened(layout: &Layout, values: Vec<Option<Value>>) -> Result<Cells, NoMe
     requires { All IsCell values.items }
     ensures { IfOk result (λ cells. cells ≡ taken 0 (parameter_components layout.now) values.items ++ replicate (components_in layout.now.variables - parameter_components layout.now) None) }
 {
-    let parameters = layout.parameter_components()?;
-    let components = layout.components()?;
     let mut values = values;
-    values.resize(parameters, None)?;
-    fill(&mut values, components)?;
+    values.resize(layout.parameter_components(), None)?;
+    fill(&mut values, layout.components())?;
     Ok(Cells::from_vec(values))
 }

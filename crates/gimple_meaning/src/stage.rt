@@ -269,8 +269,8 @@ impl<'a> Stage<'a> {
             return Err(NoMemory);
         };
         let count = layout.components_of(from);
-        let to = layout.first_component(to)?;
-        let from = layout.first_component(from)?;
+        let to = layout.first_component(to);
+        let from = layout.first_component(from);
         if to.checked_add(count).is_none() || from.checked_add(count).is_none() {
             return Err(NoMemory);
         }

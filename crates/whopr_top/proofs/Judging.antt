@@ -7,6 +7,11 @@ use Rattle.outer_files.specs.Outside.{Contents, WhereTold, Writes, WritesPrefix,
 use Rattle.whopr_words.specs.Commands.{Spoken, Cc, Run}
 use Rattle.rv64_meaning.specs.Laws.{output_of}
 use Rattle.rv64_meaning.specs.Loading.{load_fault_of, run_of}
+use Rattle.follow_laws.specs.Follows.{Follows}
+use Rattle.first_form.specs.declared.form.FirstForm.{FirstForm}
+use Rattle.first_form.specs.Form.{Spells}
+use Rattle.first_form.specs.Compiled.{FollowsText}
+use Rattle.first_form.specs.Source.{program_of}
 use Rattle.whopr_top.specs.Reads.{reads_of, written_name, AreHeld}
 use Rattle.whopr_top.specs.Judgements.{Judgement, Refuses, Gives, Judges, run_by, line, outcome_line}
 use Rattle.whopr_top.specs.Outputs.{IsJudged, IsRefused, IsDone, IsCutShort, Done, Faithful, IsFaithful, CutShort, Refused, IsValid}
@@ -90,6 +95,10 @@ two_reads limit (Some held) between first second name bytes same is within too f
 
 -- ---- the image of a text that was compiled
 
+follows_it : (text image : List ℕ) (form : FirstForm) → FollowsText text image → Spells text form → Follows image (program_of form)
+unfolding FollowsText
+follows_it text image form each spelled = each form spelled
+
 faithful_text : (limit : ℕ) (input output : List ℕ) (old new : Contents) (w x : List ℕ) (cs : List (List ℕ)) → AreHeld limit old (input ∷ []) cs
     → Judges (Cc input output) cs (Gives w x) → Writes output w old new → IsFaithful input output old new
 faithful_text limit input output old new w x [] read judged writes = absurd read
@@ -101,7 +110,7 @@ faithful_text limit input output old new w x (text ∷ []) read judged writes = 
   spelled = judged.0.spelled;
   written = writes.written;
   loads = judged.0.loads;
-  follows = judged.0.follows;
+  follows = follows_it text w judged.0.program judged.0.follows judged.0.spelled;
 }
 faithful_text limit input output old new w x (text ∷ other ∷ more) read judged writes = absurd read.2
 

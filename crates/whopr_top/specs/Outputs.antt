@@ -1,10 +1,10 @@
 -- What the files hold after a command, by what it read.
 use Rattle.std.specs.Prelude.{◌≡◌, ℕ, List, Option, None, Some, IsSomeAnd}
 use Rattle.outer_files.specs.Outside.{Contents, Writes, WritesPrefix}
-use Rattle.rv64_meaning.specs.Loading.{load_fault_of}
 use Rattle.follow_laws.specs.Follows.{Follows}
 use Rattle.first_form.specs.declared.form.FirstForm.{FirstForm}
 use Rattle.first_form.specs.Form.{Spells}
+use Rattle.first_form.specs.Compiled.{IsLoadable}
 use Rattle.first_form.specs.Source.{program_of}
 use Rattle.whopr_words.specs.Commands.{Spoken, Cc}
 use Rattle.whopr_top.specs.Reads.{reads_of, written_name, AreHeld}
@@ -32,7 +32,7 @@ pub record IsFaithful (input output : List ℕ) (old new : Contents) : Type 0 wh
   pub held : old input ≡ Some text
   pub spelled : Spells text form
   pub written : new output ≡ Some image
-  pub loads : load_fault_of image ≡ None
+  pub loads : IsLoadable image
   pub follows : Follows image (program_of form)
 
 -- the image of each text that was compiled follows its program

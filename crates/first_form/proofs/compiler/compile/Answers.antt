@@ -5,6 +5,7 @@ use Rattle.rv64_meaning.specs.Loading.{load_fault_of}
 use Rattle.follow_laws.specs.Follows.{Follows}
 use Rattle.first_form.specs.declared.form.FirstForm.{FirstForm}
 use Rattle.first_form.specs.Form.{Spells, main_code, form_image}
+use Rattle.first_form.specs.Compiled.{IsLoadable, FollowsText}
 use Rattle.first_form.specs.Source.{program_of}
 use Rattle.first_form.proofs.TemplateLaws.{frame-is}
 use Rattle.first_form.proofs.FollowLaws.{first_form_loads, first_form_follows}
@@ -14,8 +15,13 @@ use Rattle.first_form.proofs.compiler.compile.Goals as goal
 same_image : (form : FirstForm) (image code : List ℕ) → image ≡ image_of functions_address 16 code → code ≡ code_bytes (main_code form) → image ≡ form_image form
 same_image form image code e f = e ∙ ap (image_of functions_address 16) f ∙ ap (λ frame. image_of functions_address frame (code_bytes (main_code form))) (sym (frame-is form))
 
+loads_too : (text image : List ℕ) (form : FirstForm) → Spells text form → image ≡ form_image form → IsLoadable image
+unfolding IsLoadable
+loads_too text image form spelled same = ap load_fault_of same ∙ first_form_loads form spelled.arguments spelled.status spelled.few
+
 follows_each : (text image code : List ℕ) (form : FirstForm) → Spells text form → image ≡ image_of functions_address 16 code → code ≡ code_bytes (main_code form)
-    → (other : FirstForm) → Spells text other → Follows image (program_of other)
+    → FollowsText text image
+unfolding FollowsText
 follows_each text image code form spelled e f other again =
     let same = same_image other image code e (f ∙ ap (λ (x : FirstForm). code_bytes (main_code x)) (spells_once text form other spelled again)) in
     subst (λ bytes. Follows bytes (program_of other)) (sym same) (first_form_follows other again.arguments again.status again.few)
@@ -31,6 +37,6 @@ returns-clause-ok c =
       program = form;
       spelled = spelled;
       is_image = same;
-      loads = ap load_fault_of same ∙ first_form_loads form spelled.arguments spelled.status spelled.few;
+      loads = loads_too c.args.text.now image form spelled same;
       follows = follows_each c.args.text.now image _ form spelled c.in_ok-image.ensures code;
     }

@@ -6,8 +6,8 @@ use Rattle.gimple_meaning.proofs.passing.opened.Goals as goal
 
 pub returns : goal.returns
 returns c =
-    let parameters = c.in_ok-parameters.parameters in
-    let components = c.in_ok-components.components in
+    let parameters = c.parameter_components.result in
+    let components = c.components.result in
     let values = c.args.values.items in
     let given : vec_len c.args.values ≡ length values = grind (arith, common_steps) in
     let first : c.resize.new.self.items ≡ taken 0 parameters values =
@@ -15,4 +15,4 @@ returns c =
     let long : length c.resize.new.self.items ≡ parameters = grind (arith, common_steps) in
     c.from_vec.ensures ∙ c.in_ok-fill.ensures ∙ ap (λ k. c.resize.new.self.items ++ replicate (components - k) None) long
     ∙ ap (λ xs. xs ++ replicate (components - parameters) None) first
-    ∙ ap₂ (λ p q. taken 0 p values ++ replicate (q - p) None) c.in_ok-parameters.ensures c.in_ok-components.ensures
+    ∙ ap₂ (λ p q. taken 0 p values ++ replicate (q - p) None) c.parameter_components.ensures c.components.ensures

@@ -175,3 +175,6 @@ first_modules_all seed count many state choices made all is are is_made =
 pub length-choices_of : (seed count : ℕ) → length (choices_of seed count) ≡ count
 unfolding choices_of
 length-choices_of seed count = length-map-range_with_len _ 0 count
+
+pub length-first_modules : (choices : List Choice) (state many : ℕ) → length (first_modules choices state many) ≡ many
+length-first_modules choices state many = length-map-range_with_len (module_of choices state) 0 many

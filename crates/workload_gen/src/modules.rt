@@ -1,5 +1,6 @@
 //! Modules of generated functions.
-ghost use Rattle.std.specs.Prelude.{◌≡◌, ◌+◌, ◌*◌, ◌^◌, ◌<◌, ◌≤◌, ◌++◌, map, IfOk, OnOk, length};
+ghost use Rattle.std.specs.Prelude.{◌≡◌, ◌+◌, ◌*◌, ◌^◌, ◌<◌, ◌≤◌, ◌++◌, map, IfOk, OnOk, length, max};
+ghost use Rattle.std.specs.Int.{div_ceil};
 ghost use Rattle.workload_gen.specs.Functions.{declaration};
 ghost use Rattle.workload_gen.specs.Modules.{definitions_from, functions_of, main_in, module_of, modules_of, own_choices, place_in};
 ghost use Rattle.workload_gen.specs.Places.{AreForward};
@@ -15,7 +16,8 @@ use std::alloc::Global;
 ///
 /// Function `fI` stands in module I / 50, and `main` last in module 0, which is there for no functions too.
 pub fn generate(alloc: Global, seed: u64, count: u32) -> Result<List<Module>, NoMemory>
-    ensures { IfOk result (λ modules. modules ≡ modules_of seed count) }
+    ensures modules { IfOk result (λ modules. modules ≡ modules_of seed count) }
+    ensures many { IfOk result (λ modules. length modules ≡ max 1 (div_ceil count 50)) }
 {
     let mut draws = Draws { state: seed };
     let choices = choices(alloc, &mut draws, count)?;

@@ -26,6 +26,7 @@ pub struct Places<'a> {
 }
 
 impl<'a> Places<'a> {
+    /// The places of a module that begins no later than where the functions end; each function calls later ones.
     pub fn new(
         alloc: Global,
         choices: &'a [Choice],

@@ -1,0 +1,5 @@
+pub mod Draws
+pub mod Choices
+pub mod Functions
+pub mod Modules
+pub mod Places

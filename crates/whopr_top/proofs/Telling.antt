@@ -2,9 +2,9 @@
 use Rattle.std.proofs.Common.{◌≡◌, ◌≢◌, ℕ, List, Option, refl, sym, subst, inl, inr, arith, ◌⊎◌}
 use Rattle.std.specs.Prelude.{IsSomeAnd}
 use Rattle.std.proofs.lemmas.Grind.{common_steps}
-use Rattle.outer_files.specs.Outside.{Contents, Known, TookPiece, Rose}
+use Rattle.outer_files.specs.Outside.{Contents, Known, TookPiece, Rose, RoseBy}
 use Rattle.whopr_words.specs.Commands.{Spoken}
-use Rattle.whopr_top.specs.Answers.{Exactly, IsLine, PutsFault, PutsLine, after_fault, WasPut}
+use Rattle.whopr_top.specs.Answers.{Exactly, lines_of, IsLine, PutsFault, PutsLine, after_fault, WasPut}
 use Rattle.whopr_top.specs.Attempts.{Lined, Judged}
 use Rattle.whopr_top.specs.Refusal.{Reports, refusal_line, status_of}
 use Rattle.whopr_top.specs.declared.refusal.Refusal.{Refusal}
@@ -104,3 +104,10 @@ not_done (Write name) = λ is. grind (arith, is)
 not_done Memory = λ is. grind (arith, is)
 not_done (Image offset) = λ is. grind (arith, is)
 not_done Unbuilt = λ is. grind (arith, is)
+
+-- a command that was done printed no line that names a file
+pub counts : (result before now : ℕ) (A B : Type 0) → (result ≡ 0) ⊎ (result ≡ 6) ⊎ (result ≡ 7) → RoseBy 0 before now → (result ≡ 6 → A) → B
+    → RoseBy (lines_of result) before now ⊎ ((result ≡ 6) × A × B)
+counts result before now A B (inl is) rose a b = inl (subst (λ (n : ℕ). RoseBy (lines_of n) before now) (sym is) rose)
+counts result before now A B (inr (inl is)) rose a b = inr (is, a is, b)
+counts result before now A B (inr (inr is)) rose a b = inl (subst (λ (n : ℕ). RoseBy (lines_of n) before now) (sym is) rose)

@@ -46,8 +46,9 @@ pub fn plain<F: FileStore, K: Sink>(
     ensures image { ForSome (F.held files.old) (λ held. result ≢ 5 → Exactly 11 result (Refused 11 FILE_BYTES held (command_of (words_of words.now)))) }
     ensures unbuilt { ForSome (F.held files.old) (λ held. result ≢ 5 → Exactly 13 result (Refused 13 FILE_BYTES held (command_of (words_of words.now)))) }
     ensures read { result ≡ 5 → Rose (F.faults files.old) (F.faults files.new) }
-    ensures write { result ≡ 6 → Rose (F.faults files.old) (F.faults files.new) ⊎ Rose (K.known out.old).faults (K.known out.new).faults }
-    ensures counting { RoseBy (lines_of result) (F.faults files.old) (F.faults files.new) ⊎ ((result ≡ 6) × Rose (K.known out.old).faults (K.known out.new).faults) }
+    ensures write { result ≡ 6 → Rose (F.faults files.old) (F.faults files.new) ⊎ (Rose (K.known out.old).faults (K.known out.new).faults × ¬ IsQuiet (command_of (words_of words.now))) }
+    ensures counting { RoseBy (lines_of result) (F.faults files.old) (F.faults files.new)
+        ⊎ ((result ≡ 6) × Rose (K.known out.old).faults (K.known out.new).faults × ¬ IsQuiet (command_of (words_of words.now))) }
 
     // A command over held files that nothing keeps from being done is done, where neither the store nor the sink fails.
     ensures complete { ForSome (F.held files.old) (λ held. IsValid FILE_BYTES held (command_of (words_of words.now))
@@ -90,8 +91,9 @@ pub fn whopr<F: FileStore, K: Sink>(
     ensures image { ForSome (F.held files.old) (λ held. result ≢ 5 → Exactly 11 result (Refused 11 FILE_BYTES held (command_of (words_of words.now)))) }
     ensures unbuilt { ForSome (F.held files.old) (λ held. result ≢ 5 → Exactly 13 result (Refused 13 FILE_BYTES held (command_of (words_of words.now)))) }
     ensures read { result ≡ 5 → Rose (F.faults files.old) (F.faults files.new) }
-    ensures write { result ≡ 6 → Rose (F.faults files.old) (F.faults files.new) ⊎ Rose (K.known out.old).faults (K.known out.new).faults }
-    ensures counting { RoseBy (lines_of result) (F.faults files.old) (F.faults files.new) ⊎ ((result ≡ 6) × Rose (K.known out.old).faults (K.known out.new).faults) }
+    ensures write { result ≡ 6 → Rose (F.faults files.old) (F.faults files.new) ⊎ (Rose (K.known out.old).faults (K.known out.new).faults × ¬ IsQuiet (command_of (words_of words.now))) }
+    ensures counting { RoseBy (lines_of result) (F.faults files.old) (F.faults files.new)
+        ⊎ ((result ≡ 6) × Rose (K.known out.old).faults (K.known out.new).faults × ¬ IsQuiet (command_of (words_of words.now))) }
 
     // A command over held files that nothing keeps from being done is done, where neither the store nor the sink fails.
     ensures complete { ForSome (F.held files.old) (λ held. IsValid FILE_BYTES held (command_of (words_of words.now))

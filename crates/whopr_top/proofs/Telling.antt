@@ -19,6 +19,8 @@ line_is limit held new command before now status text lined judged = record {
   read = lined.read;
   write = lined.write;
   memory = lined.memory;
+  image = lined.image;
+  unbuilt = lined.unbuilt;
   refused = judged.refused_line;
 }
 
@@ -30,6 +32,8 @@ memory_line limit held command = record {
   read = λ is. grind (arith, is);
   write = λ is. grind (arith, is);
   memory = λ is. refl;
+  image = λ is. grind (arith, is);
+  unbuilt = λ is. grind (arith, is);
   refused = λ is. grind (arith, is);
 }
 

@@ -1,5 +1,5 @@
 -- The statuses of a command, when each comes, and what is printed with it.
-use Rattle.std.specs.Prelude.{◌≡◌, ◌≢◌, ℕ, ◌==◌, ◌⊎◌, List, [], ◌∷◌, ◌++◌, Bool, if◌then◌else◌, Option, None, Some, codes, IsTrue, IfSome, IsSomeAnd}
+use Rattle.std.specs.Prelude.{◌≡◌, ◌≢◌, ℕ, ◌==◌, ◌⊎◌, List, [], ◌∷◌, ◌++◌, Bool, if◌then◌else◌, Option, None, Some, codes, decimal, IsTrue, IfSome, IsSomeAnd}
 use Rattle.std.specs.List.{list_any}
 use Rattle.std.specs.Option.{ForSome}
 use Rattle.outer_files.specs.Outside.{Contents, WhereTold, Rose, RoseBy, Known, TookPiece, FailedPiece, LackedMemory}
@@ -37,6 +37,8 @@ pub record IsLine (limit : ℕ) (held : Option Contents) (command : Option Spoke
   pub read : status ≡ 5 → IsSomeAnd command (λ c. (name : List ℕ) × IfSome held (λ files. IsReached limit files (reads_of c) name) × (text ≡ line (codes "5 read " ++ name)))
   pub write : status ≡ 6 → IsSomeAnd command (λ c. text ≡ line (codes "6 write " ++ written_name c))
   pub memory : status ≡ 7 → text ≡ line (codes "7 memory")
+  pub image : status ≡ 11 → (offset : ℕ) × (text ≡ line (codes "11 image " ++ decimal offset))
+  pub unbuilt : status ≡ 13 → text ≡ line (codes "13 unbuilt")
   pub refused : IsTrue (is_judged status) → IfSome held (λ files. IsSomeAnd command (λ c. IsRefused limit c files status text))
 
 -- the line for the sink, where it fails itself

@@ -1,5 +1,5 @@
 -- How a command went before it printed anything: its status, its text, and what became of the files.
-use Rattle.std.specs.Prelude.{◌≡◌, ◌≢◌, ℕ, ◌⊎◌, List, Option, None, IsTrue, IfSome, IsSomeAnd, codes, ◌++◌}
+use Rattle.std.specs.Prelude.{◌≡◌, ◌≢◌, ℕ, ◌⊎◌, List, Option, None, IsTrue, IfSome, IsSomeAnd, codes, decimal, ◌++◌}
 use Rattle.std.specs.Option.{ForSome}
 use Rattle.outer_files.specs.Outside.{Contents, WhereTold, Rose, RoseBy}
 use Rattle.whopr_words.specs.Commands.{Spoken}
@@ -23,13 +23,15 @@ pub record Counted (before now status : ℕ) : Type 0 where
   pub write : status ≡ 6 → Rose before now
   pub counting : RoseBy (lines_of status) before now
 
--- the lines of refusals that the files' bytes are not the cause of
+-- the lines of refusals, whatever the store tells
 pub record Lined (limit : ℕ) (command : Option Spoken) (old : Option Contents) (status : ℕ) (text : List ℕ) : Type 0 where
   pub words : status ≡ 2 → text ≡ line (codes "2 words")
   pub over : status ≡ 4 → text ≡ line (codes "4 limit FileBytes 16777217 16777216")
   pub read : status ≡ 5 → IsSomeAnd command (λ c. (name : List ℕ) × IfSome old (λ files. IsReached limit files (reads_of c) name) × (text ≡ line (codes "5 read " ++ name)))
   pub write : status ≡ 6 → IsSomeAnd command (λ c. text ≡ line (codes "6 write " ++ written_name c))
   pub memory : status ≡ 7 → text ≡ line (codes "7 memory")
+  pub image : status ≡ 11 → (offset : ℕ) × (text ≡ line (codes "11 image " ++ decimal offset))
+  pub unbuilt : status ≡ 13 → text ≡ line (codes "13 unbuilt")
 
 -- what the command comes to by what it read
 pub record Judged (limit : ℕ) (command : Option Spoken) (old new : Option Contents) (before now status : ℕ) (text : List ℕ) : Type 0 where

@@ -48,7 +48,7 @@ called_ahead choices m n forward h =
     let callee = to.to in
     record { above = omega (arith, goes.0, callee); near = omega (arith, goes.1, callee, inside) }
 
-false_where : (b : Bool) → (b ≡ true → ⊥) → b ≡ false
+pub false_where : (b : Bool) → (b ≡ true → ⊥) → b ≡ false
 false_where true h = absurd (h refl)
 false_where false h = refl
 

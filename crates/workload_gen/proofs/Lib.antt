@@ -4,3 +4,7 @@ pub mod Declaring
 pub mod Calling
 pub mod Placing
 pub mod Listing
+pub mod Standing
+pub mod Bodies
+pub mod Faultless
+pub mod Checked

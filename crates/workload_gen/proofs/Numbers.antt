@@ -41,7 +41,7 @@ first_choices_all seed count many choices e c = c ∙ ap (first_choices seed cou
 
 -- ---- calls go forward
 
-draw_below : (state others bound : ℕ) → 0 < bound → draw state others bound < bound
+pub draw_below : (state others bound : ℕ) → 0 < bound → draw state others bound < bound
 draw_below state others bound some = mod-lt (next (after others state) / 2 ^ 33) some
 
 record IsSomeIf (b : Bool) (x call : Call) : Type 0 where

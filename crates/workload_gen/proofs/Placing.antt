@@ -21,11 +21,11 @@ length-declared choices m forward some =
     let few = subst (λ (n : ℕ). length (declared_below own m n) ≤ length (declared_below own m end) + (length choices - end)) e (length-declared_below-le own m end (length choices - end)) in
     omega (arith, few, none, long, some)
 
-place_of-own : (own : List Choice) (m count n : ℕ) → nat_eq (n / 50) m ≡ true → place_of own m count n ≡ length (declared_below own m count) + n % 50
+pub place_of-own : (own : List Choice) (m count n : ℕ) → nat_eq (n / 50) m ≡ true → place_of own m count n ≡ length (declared_below own m count) + n % 50
 unfolding place_of
 place_of-own own m count n e = ap (λ b. if b then length (declared_below own m count) + n % 50 else length (declared_below own m n)) e
 
-place_of-other : (own : List Choice) (m count n : ℕ) → nat_eq (n / 50) m ≡ false → place_of own m count n ≡ length (declared_below own m n)
+pub place_of-other : (own : List Choice) (m count n : ℕ) → nat_eq (n / 50) m ≡ false → place_of own m count n ≡ length (declared_below own m n)
 unfolding place_of
 place_of-other own m count n e = ap (λ b. if b then length (declared_below own m count) + n % 50 else length (declared_below own m n)) e
 

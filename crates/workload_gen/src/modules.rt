@@ -1,6 +1,7 @@
 //! Modules of generated functions.
-ghost use Rattle.std.specs.Prelude.{◌≡◌, ◌+◌, ◌*◌, ◌^◌, ◌<◌, ◌≤◌, ◌++◌, map, IfOk, OnOk, length, max};
+ghost use Rattle.std.specs.Prelude.{◌≡◌, ◌+◌, ◌*◌, ◌^◌, ◌<◌, ◌≤◌, ◌++◌, map, All, IfOk, OnOk, length, max};
 ghost use Rattle.std.specs.Int.{div_ceil};
+ghost use Rattle.gimple_ir.specs.Programs.{IsChecked};
 ghost use Rattle.workload_gen.specs.Functions.{declaration};
 ghost use Rattle.workload_gen.specs.Modules.{definitions_from, functions_of, main_in, module_of, modules_of, own_choices, place_in};
 ghost use Rattle.workload_gen.specs.Places.{AreForward};
@@ -14,9 +15,12 @@ use std::alloc::Global;
 
 /// The modules of so many functions that are drawn from the seed.
 ///
-/// Function `fI` stands in module I / 50, and `main` last in module 0, which is there for no functions too.
+/// Function `fI` stands in module I / 50, and `main` last in module 0, which is there for no functions too. Up to 22,580
+/// functions each module is checked; from there on `main` is longer than the bound of a function's code.
 pub fn generate(alloc: Global, seed: u64, count: u32) -> Result<List<Module>, NoMemory>
     ensures modules { IfOk result (λ modules. modules ≡ modules_of seed count) }
+    // `main` stays within the bound of code for so many functions.
+    ensures checked { IfOk result (λ modules. count ≤ 22580 → All IsChecked modules) }
     ensures many { IfOk result (λ modules. length modules ≡ max 1 (div_ceil count 50)) }
 {
     let mut draws = Draws { state: seed };

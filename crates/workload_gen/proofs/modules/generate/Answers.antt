@@ -1,6 +1,7 @@
 use Rattle.std.proofs.Common.{length, ap, ◌∙◌, arith}
 use Rattle.workload_gen.specs.Modules.{module_of}
 use Rattle.workload_gen.proofs.Listing.{length-choices_of, first_modules_more, first_modules_all, length-first_modules}
+use Rattle.workload_gen.proofs.Checked.{modules_checked}
 use Rattle.workload_gen.proofs.modules.generate.Goals as goal
 
 pub module_of-requires-clause-numbered : goal.module_of-requires-clause-numbered
@@ -24,6 +25,13 @@ returns-clause-modules c =
     first_modules_all c.args.seed c.args.count c.loop-number.number _ c.in_ok-choices.choices.items _
     (omega (arith, c.loop-number-test.false, c.loop-number.auto.number-end, c.max-many.ensures, c.div_ceil.ensures)) c.in_ok-choices.ensures.state c.in_ok-choices.ensures.value
     (c.from_vec.ensures ∙ c.loop-number.invariant)
+
+pub returns-clause-checked : goal.returns-clause-checked
+returns-clause-checked c = λ few.
+    let is = first_modules_all c.args.seed c.args.count c.loop-number.number _ c.in_ok-choices.choices.items _
+    (omega (arith, c.loop-number-test.false, c.loop-number.auto.number-end, c.max-many.ensures, c.div_ceil.ensures)) c.in_ok-choices.ensures.state c.in_ok-choices.ensures.value
+    (c.from_vec.ensures ∙ c.loop-number.invariant) in
+    modules_checked c.args.seed c.args.count _ is few
 
 pub returns-clause-many : goal.returns-clause-many
 returns-clause-many c =

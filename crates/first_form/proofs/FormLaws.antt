@@ -8,13 +8,13 @@ use Rattle.std.proofs.lemmas.List.Elements.{All-push, All-drop, All-head}
 use Rattle.std.proofs.lemmas.Bool.{lt-ltb, ltb-true}
 use Rattle.std.proofs.lemmas.Slice.Eq.{bytes_eq-Decides}
 use denote.Enum.Bare.{same_true}
-use Rattle.gimple_syntax.specs.contracts.token.Keyword.{the_type as keyword}
-use Rattle.gimple_syntax.specs.contracts.token.Mark.{the_type as mark}
-use Rattle.gimple_syntax.specs.declared.token.Keyword.TheVariants as words
-use Rattle.gimple_syntax.specs.declared.token.Mark.TheVariants.{Semicolon, Minus, OpenRound, CloseRound, OpenCurly, CloseCurly}
-use Rattle.gimple_syntax.specs.declared.token.Suffix.TheVariants as suffix
-use Rattle.gimple_syntax.specs.Tokens.{Lexeme, Name, Word, Number, Sign, End, Bad, Placed, tokens_of, placed}
-use Rattle.gimple_syntax.specs.Reading.{head_of, same, passed, number_below, read_number, with_rest, Gives, Passes}
+use Rattle.gimple_tokens.specs.contracts.token.Keyword.{the_type as keyword}
+use Rattle.gimple_tokens.specs.contracts.token.Mark.{the_type as mark}
+use Rattle.gimple_tokens.specs.declared.token.Keyword.TheVariants as words
+use Rattle.gimple_tokens.specs.declared.token.Mark.TheVariants.{Semicolon, Minus, OpenRound, CloseRound, OpenCurly, CloseCurly}
+use Rattle.gimple_tokens.specs.declared.token.Suffix.TheVariants as suffix
+use Rattle.gimple_tokens.specs.Tokens.{Lexeme, Name, Word, Number, Sign, End, Bad, Placed, tokens_of, placed}
+use Rattle.gimple_tokens.specs.Reading.{head_of, same, passed, number_below, read_number, with_rest, Gives, Passes}
 use Rattle.first_form.specs.declared.form.FirstForm.{FirstForm}
 use Rattle.first_form.specs.declared.form.Literal.{Literal}
 use Rattle.first_form.specs.declared.form.Literal.TheVariants.{Plain, Negated}

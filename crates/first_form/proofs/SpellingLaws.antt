@@ -2,8 +2,8 @@
 use Rattle.std.proofs.Common.{◌≡◌, List, [], ◌∷◌, ◌++◌, refl, sym, ap, ap₂, ◌∙◌, append_assoc}
 use Rattle.std.specs.List.{flat_map}
 use Rattle.std.proofs.lemmas.List.{append_cancel_left}
-use Rattle.gimple_syntax.specs.declared.token.Mark.TheVariants.{Semicolon, CloseRound, CloseCurly}
-use Rattle.gimple_syntax.specs.Tokens.{Lexeme, Sign, End}
+use Rattle.gimple_tokens.specs.declared.token.Mark.TheVariants.{Semicolon, CloseRound, CloseCurly}
+use Rattle.gimple_tokens.specs.Tokens.{Lexeme, Sign, End}
 use Rattle.first_form.specs.declared.form.FirstForm.{FirstForm}
 use Rattle.first_form.specs.declared.form.Literal.{Literal}
 use Rattle.first_form.specs.declared.form.Literal.TheVariants.{Plain, Negated}

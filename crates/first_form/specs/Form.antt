@@ -3,10 +3,10 @@
 use Rattle.std.specs.Prelude.{◌≡◌, ℕ, ◌+◌, ◌*◌, ◌<◌, ◌≤◌, ◌^◌, ℤ, pos, neg_ℤ, List, [], ◌∷◌, ◌++◌, length, map, All, codes, Some, if◌then◌else◌}
 use Rattle.std.specs.Str.{bytes_eq}
 use Rattle.std.specs.List.{flat_map}
-use Rattle.gimple_syntax.specs.declared.token.Keyword.TheVariants as words
-use Rattle.gimple_syntax.specs.declared.token.Mark.TheVariants.{Semicolon, Minus, OpenRound, CloseRound, OpenCurly, CloseCurly}
-use Rattle.gimple_syntax.specs.declared.token.Suffix.TheVariants as suffix
-use Rattle.gimple_syntax.specs.Tokens.{Lexeme, Name, Word, Number, Sign, End, Placed, tokens_of}
+use Rattle.gimple_tokens.specs.declared.token.Keyword.TheVariants as words
+use Rattle.gimple_tokens.specs.declared.token.Mark.TheVariants.{Semicolon, Minus, OpenRound, CloseRound, OpenCurly, CloseCurly}
+use Rattle.gimple_tokens.specs.declared.token.Suffix.TheVariants as suffix
+use Rattle.gimple_tokens.specs.Tokens.{Lexeme, Name, Word, Number, Sign, End, Placed, tokens_of}
 use Rattle.gimple_ir.specs.declared.types.Operand.{Operand}
 use Rattle.gimple_ir.specs.declared.types.Operand.TheVariants as operands
 use Rattle.gimple_ir.specs.declared.types.ScalarType.TheVariants as types

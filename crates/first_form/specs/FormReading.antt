@@ -1,10 +1,10 @@
 -- How a text of the first form is read from left to right: what is read, and what is left behind it.
 use Rattle.std.specs.Prelude.{◌≡◌, ℕ, ◌+◌, ◌^◌, Bool, true, false, List, ◌++◌, length, Option, None, Some, option_and_then, if◌then◌else◌, ◌≤◌, All}
 use Rattle.std.specs.List.{flat_map}
-use Rattle.gimple_syntax.specs.declared.token.Keyword.TheVariants as words
-use Rattle.gimple_syntax.specs.declared.token.Mark.TheVariants.{Semicolon, Minus, OpenRound, CloseRound, OpenCurly, CloseCurly}
-use Rattle.gimple_syntax.specs.Tokens.{Lexeme, Word, Name, Sign, End, Placed}
-use Rattle.gimple_syntax.specs.Reading.{head_of, same, passed, read_number}
+use Rattle.gimple_tokens.specs.declared.token.Keyword.TheVariants as words
+use Rattle.gimple_tokens.specs.declared.token.Mark.TheVariants.{Semicolon, Minus, OpenRound, CloseRound, OpenCurly, CloseCurly}
+use Rattle.gimple_tokens.specs.Tokens.{Lexeme, Word, Name, Sign, End, Placed}
+use Rattle.gimple_tokens.specs.Reading.{head_of, same, passed, read_number}
 use Rattle.std.specs.Prelude.{codes}
 use Rattle.first_form.specs.declared.form.Literal.{Literal}
 use Rattle.first_form.specs.declared.form.Literal.TheVariants.{Plain, Negated}

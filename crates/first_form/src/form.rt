@@ -1,12 +1,12 @@
 // The texts that are compiled so far: a `main` that calls putchar with literals and returns one.
 ghost use Rattle.std.specs.Prelude.{◌≡◌, ◌<◌, ◌≤◌, ◌^◌, ◌-◌, length, [], ◌∷◌, IfOk, IsErrOf, IfSome};
-ghost use Rattle.gimple_syntax.specs.Reading.{Gives, Passes, line_of};
-ghost use Rattle.gimple_syntax.specs.Tokens.{placed, End};
+ghost use Rattle.gimple_tokens.specs.Reading.{Gives, Passes, line_of};
+ghost use Rattle.gimple_tokens.specs.Tokens.{placed, End};
 ghost use Rattle.first_form.specs.Form.{IsInt, value_of, Spells, IsUnbuilt};
 ghost use Rattle.first_form.specs.FormReading.{read_literal, read_call, read_opening, read_closing, ReadsCalls, IsNoRest};
 
 use gimple_ir::List;
-use gimple_syntax::{Keyword, Mark, Reader};
+use gimple_tokens::{Keyword, Mark, Reader};
 use std::alloc::{AllocError, Global};
 
 /// The most calls of putchar, so that the code stays below 512 KiB.

@@ -1,5 +1,5 @@
 use Rattle.std.proofs.Common.{◌≡◌, [], ◌∷◌, true, sym, ◌∙◌, arith, length-append}
-use Rattle.gimple_syntax.specs.Reading.{head_of, same}
+use Rattle.gimple_tokens.specs.Reading.{head_of, same}
 use Rattle.first_form.specs.Form.{putchar_name}
 use Rattle.first_form.specs.FormReading.{read_call}
 use Rattle.first_form.proofs.FormLaws.{none-read, some-read, was-none, was-some, call-takes, shorter, all-more, too_many, no_call, tokens_more}

@@ -1,0 +1,11 @@
+pub mod Laws
+pub mod Viable
+pub mod Lists
+pub mod Sound
+pub mod Loops
+pub mod TokenLaws
+pub mod Operands
+pub mod PieceLaws
+pub mod StatementLaws
+pub mod ItemLaws
+pub mod TextLaws

@@ -1,0 +1,6 @@
+pub mod Grammar
+pub mod Pieces
+pub mod Statements
+pub mod Items
+pub mod Texts
+pub mod Adding

@@ -1,0 +1,37 @@
+// What stands between two places where the text may go on in several ways. A form of `syntax` is made of these.
+
+use crate::syntax::{ArrayText, Body, FunctionText, Operand};
+use gimple_ir::{BinaryOp, ElementType, List, ResultType};
+use gimple_tokens::Identifier;
+
+/// What stands after the first operand on the right of `=`: `;` or `+ b;`.
+#[derive(Debug, Drop)]
+pub(crate) enum After {
+    End,
+    Binary(BinaryOp, Operand),
+}
+
+/// What stands after a name on the right of `=`.
+#[derive(Debug, Drop)]
+pub(crate) enum NameTail {
+    /// `[a];`
+    Load(Operand),
+    /// `(a, s);`
+    Call(List<Operand>),
+    /// `.f` or nothing, and what stands after that operand
+    Value(Option<Identifier>, After),
+}
+
+/// The type and the name of an array or a function, and the bracket after them: `int A [` or `int f (`.
+#[derive(Debug, Drop)]
+pub(crate) enum Head {
+    Array(ElementType, Identifier),
+    Function(ResultType, Identifier),
+}
+
+/// A definition without its linkage.
+#[derive(Debug, Drop)]
+pub(crate) enum Defined {
+    Array(ArrayText),
+    Function(FunctionText, Body),
+}

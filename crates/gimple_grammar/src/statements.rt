@@ -1,0 +1,367 @@
+// Reads statements: `specs/Statements.antt`.
+ghost use Rattle.std.specs.Prelude.{◌≡◌, false, true};
+ghost use Rattle.gimple_tokens.specs.Tokens.{Sign};
+ghost use Rattle.gimple_tokens.specs.Reading.{same};
+ghost use Rattle.gimple_tokens.specs.Stops.{GivesOr};
+ghost use Rattle.gimple_grammar.specs.Grammar.{◌▷◌, ◌◁◌, ◌then◌, only, many};
+ghost use Rattle.gimple_grammar.specs.Adding.{AddsOne};
+ghost use Rattle.gimple_grammar.specs.Pieces.{number, operand};
+ghost use Rattle.gimple_grammar.specs.Statements.{after, value_of, number_made, number_parts, negative, store_made, store_of, name_tail, named_by, right, tail, branches, condition, case_label, cases, selection, returned, form, statement, statements};
+
+use crate::parts::{After, NameTail};
+use crate::pieces::{arguments, literal, operand, place, scalar};
+use crate::syntax::{
+    Binary, CaseLabel, Choice, Condition, Form, Line, Literal, Operand, Place, Right, Tail,
+};
+use gimple_ir::List;
+use gimple_tokens::{Failure, Identifier, Keyword, Mark, NumberPlace, Reader};
+use std::alloc::Global;
+
+// ---- what stands on the right of `=`
+
+#[tactic(auto, unfolding(crate::specs::Statements::after, crate::specs::Pieces::operator))]
+fn after(alloc: Global, reader: &mut Reader<'_>) -> Result<After, Failure>
+    ensures { GivesOr result reader.new (after.read reader.old) }
+{
+    if reader.is_sign(Mark::Semicolon) {
+        reader.expect_sign(Mark::Semicolon)?;
+        return Ok(After::End);
+    }
+    let op = reader.operator()?;
+    let right = operand(alloc, reader)?;
+    reader.expect_sign(Mark::Semicolon)?;
+    Ok(After::Binary(op, right))
+}
+
+// The right side of which this is the first operand.
+fn value_of(left: Operand, after: After) -> Right
+    ensures { result ≡ value_of left after }
+{
+    match after {
+        After::End => Right::Value(left),
+        After::Binary(op, right) => Right::Binary(Binary { left, op, right }),
+    }
+}
+
+// A number, and what stands after it.
+#[tactic(auto, unfolding(crate::specs::Pieces::number))]
+fn number_first(alloc: Global, reader: &mut Reader<'_>, negative: bool) -> Result<Right, Failure>
+    ensures { GivesOr result reader.new ((only (number NumberPlace.Literal negative then after) (number_made negative) (number_parts negative)).read reader.old) }
+{
+    let (number, suffix) = reader.number_at(NumberPlace::Literal, negative)?;
+    let after = after(alloc, reader)?;
+    let literal = Literal {
+        negative,
+        number,
+        suffix,
+    };
+    Ok(value_of(Operand::Literal(literal), after))
+}
+
+#[tactic(auto, unfolding(crate::specs::Statements::negative, crate::specs::Pieces::place, crate::specs::Pieces::name, crate::specs::Pieces::number))]
+fn negative(alloc: Global, reader: &mut Reader<'_>) -> Result<Right, Failure>
+    ensures { GivesOr result reader.new (negative.read reader.old) }
+{
+    if reader.has_name() {
+        let place = place(alloc, reader)?;
+        reader.expect_sign(Mark::Semicolon)?;
+        return Ok(Right::Negate(Operand::Place(place)));
+    }
+    if reader.is_sign(Mark::Minus) {
+        reader.expect_sign(Mark::Minus)?;
+        let (number, suffix) = reader.number_at(NumberPlace::Literal, true)?;
+        reader.expect_sign(Mark::Semicolon)?;
+        return Ok(Right::Negate(Operand::Literal(Literal {
+            negative: true,
+            number,
+            suffix,
+        })));
+    }
+    number_first(alloc, reader, true)
+}
+
+#[tactic(auto, unfolding(crate::specs::Statements::name_tail, crate::specs::Pieces::name))]
+fn name_tail(alloc: Global, reader: &mut Reader<'_>) -> Result<NameTail, Failure>
+    ensures { GivesOr result reader.new (name_tail.read reader.old) }
+{
+    if reader.is_sign(Mark::OpenSquare) {
+        reader.expect_sign(Mark::OpenSquare)?;
+        let index = operand(alloc, reader)?;
+        reader.expect_sign(Mark::CloseSquare)?;
+        reader.expect_sign(Mark::Semicolon)?;
+        return Ok(NameTail::Load(index));
+    }
+    if reader.is_sign(Mark::OpenRound) {
+        reader.expect_sign(Mark::OpenRound)?;
+        let arguments = arguments(alloc, reader)?;
+        reader.expect_sign(Mark::Semicolon)?;
+        return Ok(NameTail::Call(arguments));
+    }
+    if reader.is_sign(Mark::Dot) {
+        reader.expect_sign(Mark::Dot)?;
+        let field = reader.name(alloc)?;
+        let after = after(alloc, reader)?;
+        return Ok(NameTail::Value(Some(field), after));
+    }
+    Ok(NameTail::Value(None, after(alloc, reader)?))
+}
+
+// The right side that begins with this name.
+fn named_by(name: Identifier, tail: NameTail) -> Right
+    ensures { result ≡ named_by name tail }
+{
+    match tail {
+        NameTail::Load(index) => Right::Load(name, index),
+        NameTail::Call(arguments) => Right::Call(name, arguments),
+        NameTail::Value(field, after) => value_of(Operand::Place(Place { name, field }), after),
+    }
+}
+
+#[tactic(auto, unfolding(crate::specs::Statements::right, crate::specs::Pieces::name))]
+fn right(alloc: Global, reader: &mut Reader<'_>) -> Result<Right, Failure>
+    ensures { GivesOr result reader.new (right.read reader.old) }
+{
+    if reader.is_sign(Mark::Tilde) {
+        reader.expect_sign(Mark::Tilde)?;
+        let of = operand(alloc, reader)?;
+        reader.expect_sign(Mark::Semicolon)?;
+        return Ok(Right::Complement(of));
+    }
+    if reader.is_sign(Mark::OpenRound) {
+        reader.expect_sign(Mark::OpenRound)?;
+        let ty = scalar(reader)?;
+        reader.expect_sign(Mark::CloseRound)?;
+        let of = operand(alloc, reader)?;
+        reader.expect_sign(Mark::Semicolon)?;
+        return Ok(Right::Convert(ty, of));
+    }
+    if reader.is_sign(Mark::Minus) {
+        reader.expect_sign(Mark::Minus)?;
+        return negative(alloc, reader);
+    }
+    if reader.has_name() {
+        let name = reader.name(alloc)?;
+        let tail = name_tail(alloc, reader)?;
+        return Ok(named_by(name, tail));
+    }
+    number_first(alloc, reader, false)
+}
+
+// ---- what stands after a name that begins a statement
+
+#[tactic(auto, unfolding(crate::specs::Statements::tail, crate::specs::Pieces::name))]
+fn tail(alloc: Global, reader: &mut Reader<'_>) -> Result<Tail, Failure>
+    ensures { GivesOr result reader.new (tail.read reader.old) }
+{
+    if reader.is_sign(Mark::Colon) {
+        reader.expect_sign(Mark::Colon)?;
+        return Ok(Tail::Label);
+    }
+    if reader.is_sign(Mark::OpenRound) {
+        reader.expect_sign(Mark::OpenRound)?;
+        let arguments = arguments(alloc, reader)?;
+        reader.expect_sign(Mark::Semicolon)?;
+        return Ok(Tail::Call(arguments));
+    }
+    if reader.is_sign(Mark::OpenSquare) {
+        return store(alloc, reader);
+    }
+    if reader.is_sign(Mark::Dot) {
+        reader.expect_sign(Mark::Dot)?;
+        let field = reader.name(alloc)?;
+        reader.expect_sign(Mark::Equals)?;
+        return Ok(Tail::AssignField(field, right(alloc, reader)?));
+    }
+    reader.expect_sign(Mark::Equals)?;
+    Ok(Tail::Assign(right(alloc, reader)?))
+}
+
+// `[a] = b;`
+fn store(alloc: Global, reader: &mut Reader<'_>) -> Result<Tail, Failure>
+    ensures { GivesOr result reader.new ((only (Sign Mark.OpenSquare ▷ operand ◁ Sign Mark.CloseSquare then Sign Mark.Equals ▷ operand ◁ Sign Mark.Semicolon) store_made store_of).read reader.old) }
+{
+    reader.expect_sign(Mark::OpenSquare)?;
+    let index = operand(alloc, reader)?;
+    reader.expect_sign(Mark::CloseSquare)?;
+    reader.expect_sign(Mark::Equals)?;
+    let from = operand(alloc, reader)?;
+    reader.expect_sign(Mark::Semicolon)?;
+    Ok(Tail::Store(index, from))
+}
+
+// ---- what stands after `if`, `switch` and `return`
+
+#[tactic(auto, unfolding(crate::specs::Statements::branches, crate::specs::Pieces::name))]
+fn branches(alloc: Global, reader: &mut Reader<'_>) -> Result<(Identifier, Identifier), Failure>
+    ensures { GivesOr result reader.new (branches.read reader.old) }
+{
+    reader.expect_word(Keyword::Goto)?;
+    let met = reader.name(alloc)?;
+    reader.expect_sign(Mark::Semicolon)?;
+    reader.expect_word(Keyword::Else)?;
+    reader.expect_word(Keyword::Goto)?;
+    let missed = reader.name(alloc)?;
+    reader.expect_sign(Mark::Semicolon)?;
+    Ok((met, missed))
+}
+
+#[tactic(auto, unfolding(crate::specs::Statements::condition, crate::specs::Pieces::operator))]
+fn condition(alloc: Global, reader: &mut Reader<'_>) -> Result<Condition, Failure>
+    ensures { GivesOr result reader.new (condition.read reader.old) }
+{
+    reader.expect_sign(Mark::OpenRound)?;
+    let left = operand(alloc, reader)?;
+    let op = reader.operator()?;
+    let right = operand(alloc, reader)?;
+    reader.expect_sign(Mark::CloseRound)?;
+    let (met, missed) = branches(alloc, reader)?;
+    Ok(Condition {
+        left,
+        op,
+        right,
+        met,
+        missed,
+    })
+}
+
+#[tactic(auto, unfolding(crate::specs::Statements::case_label, crate::specs::Pieces::name))]
+fn case_label(alloc: Global, reader: &mut Reader<'_>) -> Result<CaseLabel, Failure>
+    ensures { GivesOr result reader.new (case_label.read reader.old) }
+{
+    reader.expect_sign(Mark::Comma)?;
+    reader.expect_word(Keyword::Case)?;
+    let value = literal(reader, NumberPlace::Literal)?;
+    reader.expect_sign(Mark::Colon)?;
+    let label = reader.name(alloc)?;
+    Ok(CaseLabel { value, label })
+}
+
+fn add_case(
+    alloc: Global,
+    reader: &mut Reader<'_>,
+    found: &mut List<CaseLabel>,
+) -> Result<(), Failure>
+    ensures { AddsOne result found.old found.new reader.new (case_label.read reader.old) }
+{
+    let next = case_label(alloc, reader)?;
+    found.push(next)?;
+    Ok(())
+}
+
+fn more_cases(alloc: Global, reader: &mut Reader<'_>) -> Result<List<CaseLabel>, Failure>
+    ensures { GivesOr result reader.new ((many (same (Sign Mark.Greater)) case_label).read reader.old) }
+{
+    let mut found = List::new(alloc);
+    'more: while !reader.is_sign(Mark::Greater) {
+        add_case(alloc, reader, &mut found)?;
+    }
+    Ok(found)
+}
+
+#[tactic(auto, unfolding(crate::specs::Statements::selection, crate::specs::Statements::cases, crate::specs::Pieces::name))]
+fn selection(alloc: Global, reader: &mut Reader<'_>) -> Result<Choice, Failure>
+    ensures { GivesOr result reader.new (selection.read reader.old) }
+{
+    reader.expect_sign(Mark::OpenRound)?;
+    let on = operand(alloc, reader)?;
+    reader.expect_sign(Mark::CloseRound)?;
+    reader.expect_sign(Mark::Less)?;
+    reader.expect_word(Keyword::Default)?;
+    reader.expect_sign(Mark::Colon)?;
+    let otherwise = reader.name(alloc)?;
+    let cases = more_cases(alloc, reader)?;
+    reader.expect_sign(Mark::Greater)?;
+    reader.expect_sign(Mark::Semicolon)?;
+    Ok(Choice {
+        on,
+        otherwise,
+        cases,
+    })
+}
+
+#[tactic(auto, unfolding(crate::specs::Statements::returned))]
+fn returned(alloc: Global, reader: &mut Reader<'_>) -> Result<Option<Operand>, Failure>
+    ensures { GivesOr result reader.new (returned.read reader.old) }
+{
+    if reader.is_sign(Mark::Semicolon) {
+        reader.expect_sign(Mark::Semicolon)?;
+        return Ok(None);
+    }
+    let value = operand(alloc, reader)?;
+    reader.expect_sign(Mark::Semicolon)?;
+    Ok(Some(value))
+}
+
+// ---- statements
+
+#[tactic(auto, unfolding(crate::specs::Statements::form, crate::specs::Pieces::name))]
+fn form(alloc: Global, reader: &mut Reader<'_>) -> Result<Form, Failure>
+    ensures { GivesOr result reader.new (form.read reader.old) }
+{
+    if reader.is_sign(Mark::Semicolon) {
+        reader.expect_sign(Mark::Semicolon)?;
+        return Ok(Form::Empty);
+    }
+    if reader.is_word(Keyword::Goto) {
+        reader.expect_word(Keyword::Goto)?;
+        let label = reader.name(alloc)?;
+        reader.expect_sign(Mark::Semicolon)?;
+        return Ok(Form::Goto(label));
+    }
+    if reader.is_word(Keyword::If) {
+        reader.expect_word(Keyword::If)?;
+        return Ok(Form::If(condition(alloc, reader)?));
+    }
+    if reader.is_word(Keyword::Switch) {
+        reader.expect_word(Keyword::Switch)?;
+        return Ok(Form::Switch(selection(alloc, reader)?));
+    }
+    if reader.is_word(Keyword::Return) {
+        reader.expect_word(Keyword::Return)?;
+        return Ok(Form::Return(returned(alloc, reader)?));
+    }
+    let name = reader.name(alloc)?;
+    let tail = tail(alloc, reader)?;
+    Ok(Form::Named(name, tail))
+}
+
+#[tactic(auto, unfolding(crate::specs::Statements::statement))]
+fn statement(alloc: Global, reader: &mut Reader<'_>) -> Result<Line, Failure>
+    ensures { GivesOr result reader.new (statement.read reader.old) }
+{
+    let line = reader.line();
+    let form = form(alloc, reader)?;
+    Ok(Line { line, form })
+}
+
+fn add_statement(
+    alloc: Global,
+    reader: &mut Reader<'_>,
+    found: &mut List<Line>,
+) -> Result<(), Failure>
+    ensures { AddsOne result found.old found.new reader.new (statement.read reader.old) }
+{
+    let next = statement(alloc, reader)?;
+    found.push(next)?;
+    Ok(())
+}
+
+fn more_statements(alloc: Global, reader: &mut Reader<'_>) -> Result<List<Line>, Failure>
+    ensures { GivesOr result reader.new ((many (same (Sign Mark.CloseCurly)) statement).read reader.old) }
+{
+    let mut found = List::new(alloc);
+    'more: while !reader.is_sign(Mark::CloseCurly) {
+        add_statement(alloc, reader, &mut found)?;
+    }
+    Ok(found)
+}
+
+/// Reads statements, and the brace that closes.
+#[tactic(auto, unfolding(crate::specs::Statements::statements))]
+pub(crate) fn statements(alloc: Global, reader: &mut Reader<'_>) -> Result<List<Line>, Failure>
+    ensures { GivesOr result reader.new (statements.read reader.old) }
+{
+    let found = more_statements(alloc, reader)?;
+    reader.expect_sign(Mark::CloseCurly)?;
+    Ok(found)
+}

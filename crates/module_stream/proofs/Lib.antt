@@ -1,0 +1,9 @@
+pub mod Exact
+pub mod Repeats
+pub mod Tables
+pub mod NameLaws
+pub mod OperandLaws
+pub mod StatementLaws
+pub mod ElementLaws
+pub mod DeclarationLaws
+pub mod BodyLaws

@@ -1,0 +1,14 @@
+pub mod FormSteps
+pub mod SectionSteps
+pub mod NameLaws
+pub mod Found
+pub mod HeaderLaws
+pub mod Places
+pub mod FileLaws
+pub mod ReadAgain
+pub mod Laying
+pub mod Tables
+pub mod NamesSeen
+pub mod ObjectSteps
+pub mod EntryLaws
+pub mod ObjectLaws

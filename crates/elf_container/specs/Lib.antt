@@ -1,0 +1,9 @@
+pub mod Format
+pub mod Layout
+pub mod Views
+pub mod Container
+pub mod Reading
+pub mod Entries
+pub mod Relocatable
+pub mod SeenNames
+pub mod ObjectReading

@@ -1,0 +1,37 @@
+//! Relocatable ELF-64 files for RISC-V, each with one spelling: how sections are laid out in a file, and how they are read.
+//!
+//! In specs/, `Format` has the two headers, `Layout` the one layout of a list of sections, `Container` the lists of sections that
+//! a file can have, and `Reading` the first fault of a file. `read_rel` finds what `write_rel` wrote, and nothing else: it lends
+//! the sections' bytes from the file, lays the sections out again, and compares. That takes the file's size in memory beside
+//! the value, and time in proportion to it.
+//!
+//! `Relocatable` has the relocatable object of a unit: a container of four sections, `.text`, `.rela.text`, `.symtab` and `.strtab`,
+//! whose entries `Entries` spells. `write_object` gives the one file of an object of the form, and `read_object_form` finds the
+//! object of a file, as `ObjectReading` says: it parses, tests, writes again and compares.
+#![tactic(auto)]
+
+mod entries;
+mod fault;
+mod form;
+mod format;
+mod headers;
+mod names;
+mod object_form;
+mod object_reading;
+mod placing;
+mod reading;
+mod relocatable;
+mod sections;
+mod writing;
+
+pub use fault::{ElfError, ElfFault, ElfKind};
+pub use object_reading::read_object_form;
+pub use reading::read_rel;
+pub use relocatable::{FormError, RelSymbol, Reloc, RelocObject, write_object};
+pub use sections::{OwnSection, RelView, Section};
+pub use writing::write_rel;
+
+#[cfg(test)]
+mod object_tests;
+#[cfg(test)]
+mod tests;

@@ -1,0 +1,5 @@
+pub mod Keyed
+pub mod Components
+pub mod Ascending
+pub mod Calls
+pub mod Checked

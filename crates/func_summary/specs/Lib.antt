@@ -1,0 +1,5 @@
+pub mod JumpFunctions
+pub mod Summaries
+pub mod Tables
+pub mod Ready
+pub mod Rows

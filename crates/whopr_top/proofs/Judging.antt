@@ -1,9 +1,12 @@
 -- What a command came to: one lemma where it is refused, where its file is written, and where the write is cut short.
-use Rattle.std.proofs.Common.{◌≡◌, ◌≢◌, ℕ, List, [], ◌∷◌, Option, Some, None, refl, sym, ap, inl, inr, arith, ◌⊎◌, ◌≤◌, length, subst}
+use Rattle.std.proofs.Common.{◌≡◌, ◌≢◌, ℕ, List, [], ◌∷◌, Option, Some, None, Result, Ok, Err, Bool, true, false, true≢false, ◌∙◌, refl, sym, ap, inl, inr, arith, ◌⊎◌, ◌≤◌, length, subst}
 use Rattle.std.specs.Prelude.{IfSome, IsSomeAnd, ◌++◌, codes, decimal}
 use Rattle.std.specs.Option.{ForSome}
 use Rattle.std.proofs.lemmas.Grind.{common_steps}
 use Rattle.outer_files.specs.Outside.{Contents, WhereTold, Writes, WritesPrefix, Rose}
+use Rattle.gimple_ir.specs.declared.types.Module.{Module}
+use Rattle.gimple_syntax.specs.declared.text.TextFault.{TextFault}
+use Rattle.gimple_syntax.specs.Reading.{read_of}
 use Rattle.whopr_words.specs.Commands.{Spoken, Cc, Run}
 use Rattle.rv64_meaning.specs.Laws.{output_of}
 use Rattle.rv64_meaning.specs.Loading.{load_fault_of, run_of}
@@ -13,7 +16,7 @@ use Rattle.first_form.specs.Form.{Spells}
 use Rattle.first_form.specs.Compiled.{FollowsText}
 use Rattle.first_form.specs.Source.{program_of}
 use Rattle.whopr_top.specs.Reads.{reads_of, written_name, AreHeld}
-use Rattle.whopr_top.specs.Judgements.{Judgement, Refuses, Gives, Judges, run_by, line, outcome_line}
+use Rattle.whopr_top.specs.Judgements.{Judgement, Refuses, Gives, Judges, JudgesForm, JudgesText, run_by, line, text_line, outcome_line}
 use Rattle.whopr_top.specs.Outputs.{IsJudged, IsRefused, IsDone, IsCutShort, Done, Faithful, IsFaithful, CutShort, Refused, IsValid}
 use Rattle.whopr_top.specs.Answers.{Exactly, is_judged}
 use Rattle.whopr_top.specs.Attempts.{Judged}
@@ -27,10 +30,47 @@ same_contents limit held (name ∷ names) [] ds a b = absurd a
 same_contents limit held (name ∷ names) (c ∷ cs) [] a b = absurd b
 same_contents limit held (name ∷ names) (c ∷ cs) (d ∷ ds) a b = grind (arith, a.0, b.0, same_contents limit held names cs ds a.2 b.2)
 
+-- ---- the judgement of `cc`
+
+status_in : Judgement → ℕ
+status_in (Refuses status reason) = status
+status_in (Gives written text) = 0
+
+one_status_of : (text : List ℕ) (r : Result Module TextFault) (s t : ℕ) (x y : List ℕ) → JudgesText text r (Refuses s x) → JudgesText text r (Refuses t y) → s ≡ t
+unfolding status_in
+one_status_of text (Ok source) s t x y a b = grind (arith, a.0, b.0)
+one_status_of text (Err fault) s t x y a b = ap status_in a ∙ sym (ap status_in b)
+
+is_refused : Judgement → Bool
+is_refused (Refuses status reason) = true
+is_refused (Gives written text) = false
+
+never_both_of : (text : List ℕ) (r : Result Module TextFault) (s : ℕ) (x w y : List ℕ) → JudgesText text r (Refuses s x) → JudgesText text r (Gives w y) → ⊥
+unfolding is_refused
+never_both_of text (Ok source) s x w y a b = a.2 b.0.program b.0.spelled
+never_both_of text (Err fault) s x w y a b = true≢false (sym (ap is_refused b))
+
+by_fault : (text : List ℕ) (r : Result Module TextFault) (fault : TextFault) → r ≡ Err fault → JudgesText text r (Refuses 9 (text_line fault.line fault.kind))
+by_fault text r fault e = subst (λ r. JudgesText text r (Refuses 9 (text_line fault.line fault.kind))) (sym e) refl
+
+pub text_faults : (text : List ℕ) (fault : TextFault) → read_of text ≡ Err fault → JudgesText text (read_of text) (Refuses 9 (text_line fault.line fault.kind))
+text_faults text fault e = by_fault text (read_of text) fault e
+
+pub text_judged : (text : List ℕ) (source : Module) (judgement : Judgement) → read_of text ≡ Ok source → JudgesForm text judgement → JudgesText text (read_of text) judgement
+text_judged text source judgement e h = subst (λ r. JudgesText text r judgement) (sym e) h
+
+gives_form_of : (text : List ℕ) (r : Result Module TextFault) (w x : List ℕ) → JudgesText text r (Gives w x) → JudgesForm text (Gives w x)
+unfolding is_refused
+gives_form_of text (Ok source) w x h = h
+gives_form_of text (Err fault) w x h = absurd (true≢false (sym (ap is_refused h)))
+
+gives_form : (text : List ℕ) (w x : List ℕ) → JudgesText text (read_of text) (Gives w x) → JudgesForm text (Gives w x)
+gives_form text w x h = gives_form_of text (read_of text) w x h
+
 -- a refusal has one status, and no command is both refused and done
 one_status : (command : Spoken) (cs : List (List ℕ)) (s t : ℕ) (x y : List ℕ) → Judges command cs (Refuses s x) → Judges command cs (Refuses t y) → s ≡ t
 one_status (Cc input output) [] s t x y a b = absurd a
-one_status (Cc input output) (text ∷ []) s t x y a b = grind (arith, a.0, b.0)
+one_status (Cc input output) (text ∷ []) s t x y a b = one_status_of text (read_of text) s t x y a b
 one_status (Cc input output) (text ∷ other ∷ more) s t x y a b = absurd a
 one_status (Run image steps input output) [] s t x y a b = absurd a
 one_status (Run image steps input output) (bytes ∷ []) s t x y a b = absurd a
@@ -39,7 +79,7 @@ one_status (Run image steps input output) (bytes ∷ given ∷ other ∷ more) s
 
 never_both : (command : Spoken) (cs : List (List ℕ)) (s : ℕ) (x w y : List ℕ) → Judges command cs (Refuses s x) → Judges command cs (Gives w y) → ⊥
 never_both (Cc input output) [] s x w y a b = a
-never_both (Cc input output) (text ∷ []) s x w y a b = a.2 b.0.program b.0.spelled
+never_both (Cc input output) (text ∷ []) s x w y a b = never_both_of text (read_of text) s x w y a b
 never_both (Cc input output) (text ∷ other ∷ more) s x w y a b = a
 never_both (Run image steps input output) [] s x w y a b = a
 never_both (Run image steps input output) (bytes ∷ []) s x w y a b = a
@@ -102,16 +142,18 @@ follows_it text image form each spelled = each form spelled
 faithful_text : (limit : ℕ) (input output : List ℕ) (old new : Contents) (w x : List ℕ) (cs : List (List ℕ)) → AreHeld limit old (input ∷ []) cs
     → Judges (Cc input output) cs (Gives w x) → Writes output w old new → IsFaithful input output old new
 faithful_text limit input output old new w x [] read judged writes = absurd read
-faithful_text limit input output old new w x (text ∷ []) read judged writes = record {
-  text = text;
-  image = w;
-  form = judged.0.program;
-  held = read.0;
-  spelled = judged.0.spelled;
-  written = writes.written;
-  loads = judged.0.loads;
-  follows = follows_it text w judged.0.program judged.0.follows judged.0.spelled;
-}
+faithful_text limit input output old new w x (text ∷ []) read judged writes =
+    let formed = gives_form text w x judged in
+    record {
+      text = text;
+      image = w;
+      form = formed.0.program;
+      held = read.0;
+      spelled = formed.0.spelled;
+      written = writes.written;
+      loads = formed.0.loads;
+      follows = follows_it text w formed.0.program formed.0.follows formed.0.spelled;
+    }
 faithful_text limit input output old new w x (text ∷ other ∷ more) read judged writes = absurd read.2
 
 faithful : (limit : ℕ) (command : Spoken) (old new : Contents) (w x : List ℕ) (cs : List (List ℕ)) → AreHeld limit old (reads_of command) cs
@@ -127,6 +169,7 @@ refused limit command old new before now s x cs not_0 not_6 read judged =
     let at = λ (held : Contents) (told : old ≡ Some held). told_at (λ held. AreHeld limit held (reads_of command) cs) old held read told in
     let with = λ (n : ℕ) (is : s ≡ n). subst (λ (n : ℕ). Judges command cs (Refuses n x)) is judged in
     record {
+      spelled = λ held told _. record { only = λ is. (x, record { contents = cs; read = at held told; judged = with 9 is }); always = λ other. inl (held_status limit held command cs s 9 x (at held told) judged other) };
       image = λ held told _. record { only = λ is. (x, record { contents = cs; read = at held told; judged = with 11 is }); always = λ other. inl (held_status limit held command cs s 11 x (at held told) judged other) };
       unbuilt = λ held told _. record { only = λ is. (x, record { contents = cs; read = at held told; judged = with 13 is }); always = λ other. inl (held_status limit held command cs s 13 x (at held told) judged other) };
       complete = λ held told valid _. absurd (held_refused limit held command cs s x (at held told) judged valid);
@@ -143,6 +186,7 @@ pub done : (limit : ℕ) (command : Spoken) (old between new : Option Contents) 
 done limit command old between new before now w x cs same read judged writes =
     let at = λ (held : Contents) (told : old ≡ Some held). told_at (λ held. AreHeld limit held (reads_of command) cs) old held read told in
     record {
+      spelled = λ held told _. exactly_other 9 0 (Refused 9 limit held (Some command)) (λ is. grind (arith, is)) (held_given limit held command cs w x 9 (at held told) judged);
       image = λ held told _. exactly_other 11 0 (Refused 11 limit held (Some command)) (λ is. grind (arith, is)) (held_given limit held command cs w x 11 (at held told) judged);
       unbuilt = λ held told _. exactly_other 13 0 (Refused 13 limit held (Some command)) (λ is. grind (arith, is)) (held_given limit held command cs w x 13 (at held told) judged);
       complete = λ held told valid _. inl refl;
@@ -163,6 +207,7 @@ pub cut_short : (limit : ℕ) (command : Spoken) (old between new : Option Conte
 cut_short limit command old between new before now w x y cs same read judged writes rose =
     let at = λ (held : Contents) (told : old ≡ Some held). told_at (λ held. AreHeld limit held (reads_of command) cs) old held read told in
     record {
+      spelled = λ held told _. exactly_other 9 6 (Refused 9 limit held (Some command)) (λ is. grind (arith, is)) (held_given limit held command cs w x 9 (at held told) judged);
       image = λ held told _. exactly_other 11 6 (Refused 11 limit held (Some command)) (λ is. grind (arith, is)) (held_given limit held command cs w x 11 (at held told) judged);
       unbuilt = λ held told _. exactly_other 13 6 (Refused 13 limit held (Some command)) (λ is. grind (arith, is)) (held_given limit held command cs w x 13 (at held told) judged);
       complete = λ held told valid still. absurd (still rose);

@@ -8,7 +8,7 @@ use Rattle.whopr_top.specs.Answers.{Exactly, lines_of, IsLine, PutsFault, PutsLi
 use Rattle.whopr_top.specs.Attempts.{Lined, Judged}
 use Rattle.whopr_top.specs.Refusal.{Reports, refusal_line, status_of}
 use Rattle.whopr_top.specs.declared.refusal.Refusal.{Refusal}
-use Rattle.whopr_top.specs.declared.refusal.Refusal.TheVariants.{NoCommand, TooLong, Read, Write, Memory, Image, Unbuilt}
+use Rattle.whopr_top.specs.declared.refusal.Refusal.TheVariants.{NoCommand, TooLong, Read, Write, Memory, Text, Image, Unbuilt}
 
 line_is : (limit : ℕ) (held new : Option Contents) (command : Option Spoken) (before now status : ℕ) (text : List ℕ) → Lined limit command held status text
     → Judged limit command held new before now status text → IsLine limit held command status text
@@ -19,6 +19,7 @@ line_is limit held new command before now status text lined judged = record {
   read = lined.read;
   write = lined.write;
   memory = lined.memory;
+  spelled = lined.spelled;
   image = lined.image;
   unbuilt = lined.unbuilt;
   refused = judged.refused_line;
@@ -32,6 +33,7 @@ memory_line limit held command = record {
   read = λ is. grind (arith, is);
   write = λ is. grind (arith, is);
   memory = λ is. refl;
+  spelled = λ is. grind (arith, is);
   image = λ is. grind (arith, is);
   unbuilt = λ is. grind (arith, is);
   refused = λ is. grind (arith, is);
@@ -106,6 +108,7 @@ not_done TooLong = λ is. grind (arith, is)
 not_done (Read name) = λ is. grind (arith, is)
 not_done (Write name) = λ is. grind (arith, is)
 not_done Memory = λ is. grind (arith, is)
+not_done (Text at kind) = λ is. grind (arith, is)
 not_done (Image offset) = λ is. grind (arith, is)
 not_done Unbuilt = λ is. grind (arith, is)
 

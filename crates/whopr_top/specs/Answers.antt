@@ -3,9 +3,10 @@ use Rattle.std.specs.Prelude.{◌≡◌, ◌≢◌, ℕ, ◌==◌, ◌⊎◌, Li
 use Rattle.std.specs.List.{list_any}
 use Rattle.std.specs.Option.{ForSome}
 use Rattle.outer_files.specs.Outside.{Contents, WhereTold, Rose, RoseBy, Known, TookPiece, FailedPiece, LackedMemory}
+use Rattle.gimple_syntax.specs.declared.text.TextKind.{TextKind}
 use Rattle.whopr_words.specs.Commands.{Spoken, Cc, Run}
 use Rattle.whopr_top.specs.Reads.{reads_of, written_name, IsOverLimit, IsAbsent, IsReached}
-use Rattle.whopr_top.specs.Judgements.{line}
+use Rattle.whopr_top.specs.Judgements.{line, text_line}
 use Rattle.whopr_top.specs.Outputs.{IsJudged, IsRefused, Done, CutShort, Refused, IsValid}
 
 -- A status comes exactly for its cause. Want of memory, 7, may come in its place.
@@ -15,15 +16,15 @@ pub record Exactly (status result : ℕ) (cause : Type 0) : Type 0 where
 
 -- the statuses that there are
 abbrev pub is_status : ℕ → Bool
-is_status status = list_any (λ s. s == status) (0 ∷ 2 ∷ 4 ∷ 5 ∷ 6 ∷ 7 ∷ 11 ∷ 13 ∷ [])
+is_status status = list_any (λ s. s == status) (0 ∷ 2 ∷ 4 ∷ 5 ∷ 6 ∷ 7 ∷ 9 ∷ 11 ∷ 13 ∷ [])
 
 -- the statuses of a command that was refused before its first write
 abbrev pub is_early : ℕ → Bool
-is_early status = list_any (λ s. s == status) (2 ∷ 4 ∷ 5 ∷ 11 ∷ 13 ∷ [])
+is_early status = list_any (λ s. s == status) (2 ∷ 4 ∷ 5 ∷ 9 ∷ 11 ∷ 13 ∷ [])
 
 -- the statuses of a command that what it read refuses
 abbrev pub is_judged : ℕ → Bool
-is_judged status = list_any (λ s. s == status) (11 ∷ 13 ∷ [])
+is_judged status = list_any (λ s. s == status) (9 ∷ 11 ∷ 13 ∷ [])
 
 -- how many lines that name a file are printed with a status of 5 or 6, where the sink itself does not fail
 abbrev pub lines_of : ℕ → ℕ
@@ -37,6 +38,7 @@ pub record IsLine (limit : ℕ) (held : Option Contents) (command : Option Spoke
   pub read : status ≡ 5 → IsSomeAnd command (λ c. (name : List ℕ) × IfSome held (λ files. IsReached limit files (reads_of c) name) × (text ≡ line (codes "5 read " ++ name)))
   pub write : status ≡ 6 → IsSomeAnd command (λ c. text ≡ line (codes "6 write " ++ written_name c))
   pub memory : status ≡ 7 → text ≡ line (codes "7 memory")
+  pub spelled : status ≡ 9 → (at : ℕ) × (kind : TextKind) × (text ≡ text_line at kind)
   pub image : status ≡ 11 → (offset : ℕ) × (text ≡ line (codes "11 image " ++ decimal offset))
   pub unbuilt : status ≡ 13 → text ≡ line (codes "13 unbuilt")
   pub refused : IsTrue (is_judged status) → IfSome held (λ files. IsSomeAnd command (λ c. IsRefused limit c files status text))

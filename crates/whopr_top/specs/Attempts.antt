@@ -2,9 +2,10 @@
 use Rattle.std.specs.Prelude.{◌≡◌, ◌≢◌, ℕ, ◌⊎◌, List, Option, None, IsTrue, IfSome, IsSomeAnd, codes, decimal, ◌++◌}
 use Rattle.std.specs.Option.{ForSome}
 use Rattle.outer_files.specs.Outside.{Contents, WhereTold, Rose, RoseBy}
+use Rattle.gimple_syntax.specs.declared.text.TextKind.{TextKind}
 use Rattle.whopr_words.specs.Commands.{Spoken}
 use Rattle.whopr_top.specs.Reads.{reads_of, written_name, IsOverLimit, IsAbsent, IsReached}
-use Rattle.whopr_top.specs.Judgements.{line}
+use Rattle.whopr_top.specs.Judgements.{line, text_line}
 use Rattle.whopr_top.specs.Outputs.{IsJudged, IsRefused, Done, Faithful, CutShort, Refused, IsValid}
 use Rattle.whopr_top.specs.Answers.{Exactly, is_status, is_early, is_judged, lines_of}
 
@@ -30,11 +31,13 @@ pub record Lined (limit : ℕ) (command : Option Spoken) (old : Option Contents)
   pub read : status ≡ 5 → IsSomeAnd command (λ c. (name : List ℕ) × IfSome old (λ files. IsReached limit files (reads_of c) name) × (text ≡ line (codes "5 read " ++ name)))
   pub write : status ≡ 6 → IsSomeAnd command (λ c. text ≡ line (codes "6 write " ++ written_name c))
   pub memory : status ≡ 7 → text ≡ line (codes "7 memory")
+  pub spelled : status ≡ 9 → (at : ℕ) × (kind : TextKind) × (text ≡ text_line at kind)
   pub image : status ≡ 11 → (offset : ℕ) × (text ≡ line (codes "11 image " ++ decimal offset))
   pub unbuilt : status ≡ 13 → text ≡ line (codes "13 unbuilt")
 
 -- what the command comes to by what it read
 pub record Judged (limit : ℕ) (command : Option Spoken) (old new : Option Contents) (before now status : ℕ) (text : List ℕ) : Type 0 where
+  pub spelled : ForSome old (λ held. status ≢ 5 → Exactly 9 status (Refused 9 limit held command))
   pub image : ForSome old (λ held. status ≢ 5 → Exactly 11 status (Refused 11 limit held command))
   pub unbuilt : ForSome old (λ held. status ≢ 5 → Exactly 13 status (Refused 13 limit held command))
   pub complete : ForSome old (λ held. IsValid limit held command → ¬ Rose before now → (status ≡ 0) ⊎ (status ≡ 7))

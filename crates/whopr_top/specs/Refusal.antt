@@ -6,8 +6,8 @@ use Rattle.rv64_meaning.specs.Standings.{outcome_by}
 use Rattle.whopr_top.specs.declared.printed.Printed.{Printed}
 use Rattle.whopr_top.specs.declared.printed.Printed.TheVariants.{Nothing, Stood}
 use Rattle.whopr_top.specs.declared.refusal.Refusal.{Refusal}
-use Rattle.whopr_top.specs.declared.refusal.Refusal.TheVariants.{NoCommand, TooLong, Read, Write, Memory, Image, Unbuilt}
-use Rattle.whopr_top.specs.Judgements.{line, outcome_line}
+use Rattle.whopr_top.specs.declared.refusal.Refusal.TheVariants.{NoCommand, TooLong, Read, Write, Memory, Text, Image, Unbuilt}
+use Rattle.whopr_top.specs.Judgements.{line, text_line, outcome_line}
 use Rattle.whopr_words.specs.Commands.{Spoken}
 use Rattle.whopr_top.specs.Answers.{Puts, IsQuiet}
 
@@ -17,6 +17,7 @@ status_of TooLong = 4
 status_of (Read name) = 5
 status_of (Write name) = 6
 status_of Memory = 7
+status_of (Text at kind) = 9
 status_of (Image offset) = 11
 status_of Unbuilt = 13
 
@@ -26,6 +27,7 @@ refusal_line TooLong = line (codes "4 limit FileBytes 16777217 16777216")
 refusal_line (Read name) = line (codes "5 read " ++ name.now)
 refusal_line (Write name) = line (codes "6 write " ++ name.now)
 refusal_line Memory = line (codes "7 memory")
+refusal_line (Text at kind) = text_line at kind
 refusal_line (Image offset) = line (codes "11 image " ++ decimal offset)
 refusal_line Unbuilt = line (codes "13 unbuilt")
 

@@ -12,6 +12,7 @@ use crate::printed::Printed;
 use crate::refusal::Refusal;
 use crate::top::FILE_BYTES;
 use first_form::{FormFault, compile};
+use gimple_syntax::{TextError, read_module};
 use outer_files::{FileStore, ReadFault, WriteFault};
 use rv64_meaning::{LoadError, Machine, MachineState};
 use std::alloc::Global;
@@ -61,6 +62,11 @@ fn cc<'a, F: FileStore>(
         Err(ReadFault::Failed) => return Err(Refusal::Read(input)),
         Err(ReadFault::TooLong) => return Err(Refusal::TooLong),
         Err(ReadFault::NoMemory) => return Err(Refusal::Memory),
+    };
+    let _source = match read_module(alloc, &text) {
+        Ok(source) => source,
+        Err(TextError::Fault(fault)) => return Err(Refusal::Text(fault.line, fault.kind)),
+        Err(TextError::NoMemory) => return Err(Refusal::Memory),
     };
     let image = match compile(alloc, &text) {
         Ok(image) => image,

@@ -1,7 +1,10 @@
 // Why a command was refused: its status and its line.
 ghost use Rattle.std.specs.Prelude.{◌≡◌, IfOk, string_bytes};
+ghost use Rattle.whopr_top.specs.Judgements.{check_word, kind_word, text_line};
 ghost use Rattle.whopr_top.specs.Refusal.{status_of, refusal_line};
 
+use gimple_ir::TypeKind;
+use gimple_syntax::TextKind;
 use std::alloc::{AllocError, Global};
 
 /// Why a command was refused. One variant a status.
@@ -17,6 +20,8 @@ pub enum Refusal<'a> {
     Write(&'a str),
     /// 7: there was no memory.
     Memory,
+    /// 9: the text is outside the grammar, or the checks refuse it; the line and the kind of its first fault.
+    Text(u32, TextKind),
     /// 11: the image has its first fault at this byte.
     Image(u64),
     /// 13: the text is none that is compiled so far.
@@ -34,10 +39,47 @@ impl Refusal<'_> {
             Refusal::Read(_) => 5,
             Refusal::Write(_) => 6,
             Refusal::Memory => 7,
+            Refusal::Text(_, _) => 9,
             Refusal::Image(_) => 11,
             Refusal::Unbuilt => 13,
         }
     }
+}
+
+fn check_word(kind: TypeKind) -> &'static str
+    ensures { result.now ≡ check_word kind }
+{
+    match kind {
+        TypeKind::DoubleName => "DoubleName",
+        TypeKind::UnknownName => "UnknownName",
+        TypeKind::TooMany => "TooMany",
+        TypeKind::BadLabel => "BadLabel",
+        TypeKind::OpenEnd => "OpenEnd",
+        TypeKind::WrongCount => "WrongCount",
+        TypeKind::WrongType => "WrongType",
+        TypeKind::NegLiteral => "NegLiteral",
+        TypeKind::BadCase => "BadCase",
+    }
+}
+
+fn kind_word(kind: TextKind) -> &'static str
+    ensures { result.now ≡ kind_word kind }
+{
+    match kind {
+        TextKind::Byte => "Byte",
+        TextKind::Syntax => "Syntax",
+        TextKind::Literal => "Literal",
+        TextKind::Check(kind) => check_word(kind),
+    }
+}
+
+fn text_line(alloc: Global, line: u32, kind: TextKind) -> Result<String, AllocError>
+    ensures { IfOk result (λ found. string_bytes found ≡ text_line line kind) }
+{
+    let mut text = format!(in alloc; "9 text {line} ")?;
+    text.push_str(kind_word(kind))?;
+    text.push_str("\n")?;
+    Ok(text)
 }
 
 /// The line of a refusal.
@@ -50,6 +92,7 @@ pub fn refusal_line(alloc: Global, refusal: Refusal<'_>) -> Result<String, Alloc
         Refusal::Read(name) => format!(in alloc; "5 read {name}\n"),
         Refusal::Write(name) => format!(in alloc; "6 write {name}\n"),
         Refusal::Memory => format!(in alloc; "7 memory\n"),
+        Refusal::Text(line, kind) => text_line(alloc, line, kind),
         Refusal::Image(offset) => format!(in alloc; "11 image {offset}\n"),
         Refusal::Unbuilt => format!(in alloc; "13 unbuilt\n"),
     }

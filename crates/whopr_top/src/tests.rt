@@ -73,6 +73,33 @@ fn rows(rt: HostRuntime) -> Result<(), Fail> {
             "int main () { return 2147483648; }",
             none,
             none,
+            9,
+            "9 text 1 Literal\n",
+            None,
+        ),
+        (
+            "cc h.g h.img",
+            "int main () {\n  int x;\n  x = 1;\n}",
+            none,
+            none,
+            9,
+            "9 text 1 OpenEnd\n",
+            None,
+        ),
+        (
+            "cc h.g h.img",
+            "int main () {\n  int x;\n  x = y;\n  return x;\n}",
+            none,
+            none,
+            9,
+            "9 text 3 UnknownName\n",
+            None,
+        ),
+        (
+            "cc h.g h.img",
+            "int main () { int x; x = 1; return x; }",
+            none,
+            none,
             13,
             "13 unbuilt\n",
             None,
@@ -132,12 +159,12 @@ fn image(rt: HostRuntime) -> Result<(), Fail> {
     Ok(())
 }
 
-// The most calls that are compiled, one more, and a text of one byte more than 16 MiB.
+// The most calls that are compiled, one more, with which the code is too long, and a text of one byte more than 16 MiB.
 #[test]
 fn limits(rt: HostRuntime) -> Result<(), Fail> {
     let alloc = rt.alloc();
     let words = words_of(alloc, "cc h.g h.img")?;
-    for (calls, status) in [(7280, 0), (7281, 13)] {
+    for (calls, status) in [(7280, 0), (7281, 9)] {
         let mut text = String::from_str(alloc, "int main () {\n")?;
         for _ in 0..calls {
             text.push_str("__builtin_putchar (-2147483648);\n")?;

@@ -30,8 +30,9 @@ pub const FILE_BYTES: u64 = 16 << 20;
 /// | 5 | `5 read NAME` | the file could not be read |
 /// | 6 | `6 write NAME` | the file could not be written; `-` is the sink |
 /// | 7 | `7 memory` | there was no memory |
+/// | 9 | `9 text LINE KIND` | the text is outside the grammar or the checks; its first fault is in this line |
 /// | 11 | `11 image OFFSET` | the image can't be loaded; its first fault is at this byte |
-/// | 13 | `13 unbuilt` | the text is none that is compiled so far |
+/// | 13 | `13 unbuilt` | the module is none that is compiled so far |
 pub fn plain<F: FileStore, K: Sink>(
     alloc: Global,
     words: &[String],
@@ -43,6 +44,7 @@ pub fn plain<F: FileStore, K: Sink>(
     ensures words { Exactly 2 result ((command_of (words_of words.now)) ≡ None) }
     ensures limit { ForSome (F.held files.old) (λ held. result ≢ 5 → Exactly 4 result (IsSomeAnd (command_of (words_of words.now)) (λ c. IsOverLimit FILE_BYTES held (reads_of c)))) }
     ensures absent { ForSome (F.held files.old) (λ held. IsSomeAnd (command_of (words_of words.now)) (λ c. IsAbsent FILE_BYTES held (reads_of c)) → (result ≡ 5) ⊎ (result ≡ 7)) }
+    ensures text { ForSome (F.held files.old) (λ held. result ≢ 5 → Exactly 9 result (Refused 9 FILE_BYTES held (command_of (words_of words.now)))) }
     ensures image { ForSome (F.held files.old) (λ held. result ≢ 5 → Exactly 11 result (Refused 11 FILE_BYTES held (command_of (words_of words.now)))) }
     ensures unbuilt { ForSome (F.held files.old) (λ held. result ≢ 5 → Exactly 13 result (Refused 13 FILE_BYTES held (command_of (words_of words.now)))) }
     ensures read { result ≡ 5 → Rose (F.faults files.old) (F.faults files.new) }
@@ -88,6 +90,7 @@ pub fn whopr<F: FileStore, K: Sink>(
     ensures words { Exactly 2 result ((command_of (words_of words.now)) ≡ None) }
     ensures limit { ForSome (F.held files.old) (λ held. result ≢ 5 → Exactly 4 result (IsSomeAnd (command_of (words_of words.now)) (λ c. IsOverLimit FILE_BYTES held (reads_of c)))) }
     ensures absent { ForSome (F.held files.old) (λ held. IsSomeAnd (command_of (words_of words.now)) (λ c. IsAbsent FILE_BYTES held (reads_of c)) → (result ≡ 5) ⊎ (result ≡ 7)) }
+    ensures text { ForSome (F.held files.old) (λ held. result ≢ 5 → Exactly 9 result (Refused 9 FILE_BYTES held (command_of (words_of words.now)))) }
     ensures image { ForSome (F.held files.old) (λ held. result ≢ 5 → Exactly 11 result (Refused 11 FILE_BYTES held (command_of (words_of words.now)))) }
     ensures unbuilt { ForSome (F.held files.old) (λ held. result ≢ 5 → Exactly 13 result (Refused 13 FILE_BYTES held (command_of (words_of words.now)))) }
     ensures read { result ≡ 5 → Rose (F.faults files.old) (F.faults files.new) }

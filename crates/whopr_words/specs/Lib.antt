@@ -1,2 +1,4 @@
 pub mod Commands
 pub mod Spoken
+pub mod WordReading
+pub mod Jobs

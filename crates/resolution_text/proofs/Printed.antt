@@ -1,5 +1,5 @@
 -- The printed text of a resolution is read back as that resolution.
-use Rattle.std.proofs.Common.{◌≡◌, ℕ, suc, ◌+◌, ◌^◌, ◌<◌, ◌==◌, Bool, true, false, List, [], ◌∷◌, ◌++◌, length, Option, Some, None, Result, Ok, Err, decimal, All, refl, sym, ap, ◌∙◌, append_assoc, arith}
+use Rattle.std.proofs.Common.{◌≡◌, ℕ, suc, ◌+◌, ◌^◌, ◌<◌, ◌==◌, true, false, List, [], ◌∷◌, ◌++◌, length, Option, Some, Ok, decimal, All, refl, ap, ◌∙◌, append_assoc, arith}
 use Rattle.std.specs.List.{flat_map}
 use Rattle.std.specs.Fmt.{digits}
 use Rattle.std.proofs.lemmas.Bool.Decides.{nat_tests}
@@ -16,8 +16,8 @@ use Rattle.resolution_text.specs.declared.resolution.ResolvedFile.{ResolvedFile}
 use Rattle.resolution_text.specs.declared.resolution.Resolution.{Resolution}
 use Rattle.resolution_text.specs.declared.resolution.Word.{Word}
 use Rattle.resolution_text.specs.Fields.{id_of, word_of, spelling}
-use Rattle.resolution_text.specs.Reading.{◌>>=◌, when, is_number, resolved_of, resolved_at, header_of, header_at, resolved_by, file_by, file_at, resolution_by, with_kind, resolution_in}
-use Rattle.resolution_text.specs.Printing.{word_line, word_lines, header_line, file_text, text_of, IsResolved, IsResolvedFile, IsResolution}
+use Rattle.resolution_text.specs.Reading.{◌>>=◌, when, is_number, resolved_of, resolved_at, header_of, header_at, resolved_by, file_by, file_at, with_kind, resolution_in}
+use Rattle.resolution_text.specs.Printing.{word_line, word_lines, file_text, text_of, IsResolved, IsResolvedFile, IsResolution}
 use Rattle.resolution_text.proofs.Spellings.{decimal_value-decimal, id_of-digits, word_of-spelling, visible-decimal, visible-digits, visible-name, visible-spelling}
 
 -- the lines of a text, from a number on

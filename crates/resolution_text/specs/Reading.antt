@@ -8,7 +8,6 @@ use Rattle.text_lines.specs.Reading.{line_by, ◌then◌, counted, at_end}
 use Rattle.resolution_text.specs.declared.resolution.Resolved.{Resolved}
 use Rattle.resolution_text.specs.declared.resolution.ResolvedFile.{ResolvedFile}
 use Rattle.resolution_text.specs.declared.resolution.Resolution.{Resolution}
-use Rattle.resolution_text.specs.declared.resolution.Word.{Word}
 use Rattle.resolution_text.specs.declared.fault.ResolutionError.{ResolutionError}
 use Rattle.resolution_text.specs.declared.fault.ResolutionError.TheVariants.{AtLine}
 use Rattle.resolution_text.specs.declared.fault.ResolutionKind.TheVariants.{BadLine}

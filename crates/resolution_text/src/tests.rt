@@ -57,28 +57,31 @@ fn bad_line(rt: &HostRuntime, text: &[u8]) -> u32
 
 #[test]
 fn tells_the_first_bad_line(rt: HostRuntime) -> Result<(), Fail> {
-    assert_eq!(rt; bad_line(&rt, b"1\na.o 1\n0 1 UNDEF f"), 0);
-    assert_eq!(rt; bad_line(&rt, b"0\n"), 0);
-    // a missing line, and one too many
-    assert_eq!(rt; bad_line(&rt, b""), 1);
-    assert_eq!(rt; bad_line(&rt, b"1\n"), 2);
-    assert_eq!(rt; bad_line(&rt, b"1\na.o 1\n"), 3);
-    assert_eq!(rt; bad_line(&rt, b"1\na.o 0\n\n"), 3);
-    // numbers: a leading zero, more than 64 bits, a slot that is not the next
-    assert_eq!(rt; bad_line(&rt, b"01\n"), 1);
-    assert_eq!(rt; bad_line(&rt, b"1\na.o 18446744073709551616\n"), 2);
-    assert_eq!(rt; bad_line(&rt, b"1\na.o 1\n1 1 UNDEF f\n"), 3);
-    // ids of 0 and of 17 digits, and one with another byte
-    assert_eq!(rt; bad_line(&rt, b"1\na.o 1\n0  UNDEF f\n"), 3);
-    assert_eq!(rt;
-        bad_line(&rt, b"1\na.o 1\n0 00000000000000001 UNDEF f\n"),
-        3
-    );
-    assert_eq!(rt; bad_line(&rt, b"1\na.o 1\n0 g UNDEF f\n"), 3);
-    // another word, a word too few, two spaces, no name
-    assert_eq!(rt; bad_line(&rt, b"1\na.o 1\n0 1 undef f\n"), 3);
-    assert_eq!(rt; bad_line(&rt, b"1\na.o 1\n0 1 UNDEF\n"), 3);
-    assert_eq!(rt; bad_line(&rt, b"1\na.o  1\n"), 2);
-    assert_eq!(rt; bad_line(&rt, b"1\na.o 1\n0 1 UNDEF \x7f\n"), 3);
+    let rows: [(&str, u32); 15] = [
+        ("1\na.o 1\n0 1 UNDEF f", 0),
+        // a missing line, and one too many
+        ("", 1),
+        ("1\n", 2),
+        ("1\na.o 1\n", 3),
+        ("1\na.o 0\n\n", 3),
+        // numbers: a leading zero, more than 64 bits, a slot that is not the next
+        ("01\n", 1),
+        ("1\na.o 18446744073709551616\n", 2),
+        ("1\na.o 1\n1 1 UNDEF f\n", 3),
+        // ids of 0 and of 17 digits, and one with another byte
+        ("1\na.o 1\n0  UNDEF f\n", 3),
+        ("1\na.o 1\n0 00000000000000001 UNDEF f\n", 3),
+        ("1\na.o 1\n0 g UNDEF f\n", 3),
+        // another word, a word too few, two spaces, no name
+        ("1\na.o 1\n0 1 undef f\n", 3),
+        ("1\na.o 1\n0 1 UNDEF\n", 3),
+        ("1\na.o  1\n", 2),
+        ("1\na.o 1\n0 1 UNDEF \x7f\n", 3),
+    ];
+    for (text, line) in rows {
+        let is_short = text.len() < 1000;
+        assert!(rt; is_short);
+        assert_eq!(rt; bad_line(&rt, text.as_bytes()), line, "{text}");
+    }
     Ok(())
 }

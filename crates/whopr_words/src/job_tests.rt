@@ -63,7 +63,7 @@ fn text(alloc: Global, row: Row<'_>) -> Result<String, Fail> {
     Ok(text)
 }
 
-fn row<'a>(first: &'a str, links: &'a [(u32, u32, u32, u32)], end: &'a str) -> Row<'a> {
+fn file<'a>(first: &'a str, links: &'a [(u32, u32, u32, u32)], end: &'a str) -> Row<'a> {
     Row { first, links, end }
 }
 
@@ -71,24 +71,24 @@ fn row<'a>(first: &'a str, links: &'a [(u32, u32, u32, u32)], end: &'a str) -> R
 fn tells_the_first_bad_line(rt: HostRuntime) -> Result<(), Fail> {
     let one = [(0, 1, 1, 1)];
     let rows = [
-        (row("batch 1 cache 1", &one, ""), 0),
-        (row("batch 1 cache 0", &one, "\n"), 1),
-        (row("batch 65 cache 1", &one, "\n"), 1),
-        (row("batch 1 cache 01", &one, "\n"), 1),
-        (row("batch 1  cache 1", &one, "\n"), 1),
-        (row("", &[], ""), 1),
-        (row("batch 1 cache 1", &[(0, 129, 1, 1)], "\n"), 2),
-        (row("batch 1 cache 1", &[(0, 1, 1, 0)], "\n"), 2),
-        (row("batch 1 cache 1", &[], "\n"), 2),
-        (row("batch 1 cache 1", &[(0, 1, 1, 2)], "\n"), 4),
-        (row("batch 1 cache 1", &one, "\n\n"), 4),
-        (row("batch 1 cache 1", &one, " h\n"), 3),
+        (file("batch 1 cache 1", &one, ""), 0),
+        (file("batch 1 cache 0", &one, "\n"), 1),
+        (file("batch 65 cache 1", &one, "\n"), 1),
+        (file("batch 1 cache 01", &one, "\n"), 1),
+        (file("batch 1  cache 1", &one, "\n"), 1),
+        (file("", &[], ""), 1),
+        (file("batch 1 cache 1", &[(0, 129, 1, 1)], "\n"), 2),
+        (file("batch 1 cache 1", &[(0, 1, 1, 0)], "\n"), 2),
+        (file("batch 1 cache 1", &[], "\n"), 2),
+        (file("batch 1 cache 1", &[(0, 1, 1, 2)], "\n"), 4),
+        (file("batch 1 cache 1", &one, "\n\n"), 4),
+        (file("batch 1 cache 1", &one, " h\n"), 3),
         (
-            row("batch 2 cache 1", &[(7, 1, 1, 1), (7, 1, 1, 1)], "\n"),
+            file("batch 2 cache 1", &[(7, 1, 1, 1), (7, 1, 1, 1)], "\n"),
             4,
         ),
         (
-            row(
+            file(
                 "batch 5 cache 1",
                 &[
                     (0, 1, 64, 1),

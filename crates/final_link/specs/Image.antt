@@ -1,5 +1,6 @@
 -- The image: an ELF-64 executable (System V gABI, "ELF Header" and "Program Header") of two segments, the text and the
--- data. So far no program has arrays, so the data are the scratch byte's 16 bytes and the stack, all zero.
+-- data. The text is the stubs and the functions' code; the data are the arrays, the scratch byte's 16 bytes and the
+-- stack. Arrays that are all zero come last, so that the file ends before them.
 use Rattle.std.specs.Prelude.{ℕ, ◌+◌, ◌-◌, ◌*◌, ◌/◌, List, [], ◌∷◌, ◌++◌, length, replicate}
 use Rattle.std.specs.List.{flat_map}
 use Rattle.std.specs.Int.{w16, w32, w64, to_le_bytes}
@@ -33,13 +34,13 @@ text_size code = 100 + length code
 abbrev pub data_address : List ℕ → ℕ
 data_address code = round_up 4096 (start_address + text_size code)
 
--- the scratch byte, behind the arrays, of which there are none yet
-abbrev pub scratch_address : List ℕ → ℕ
-scratch_address code = round_up 16 (data_address code)
+-- the scratch byte, behind arrays of so many bytes
+abbrev pub scratch_behind : ℕ → List ℕ → ℕ
+scratch_behind arrays code = round_up 16 (data_address code + arrays)
 
 -- the stack's top, above 4096 frames of the largest size
-abbrev pub stack_top : ℕ → List ℕ → ℕ
-stack_top frame code = scratch_address code + 16 + 4096 * frame
+abbrev pub top_behind : ℕ → ℕ → List ℕ → ℕ
+top_behind arrays frame code = scratch_behind arrays code + 16 + 4096 * frame
 
 -- ---- the file
 
@@ -71,20 +72,40 @@ abbrev pub program_header : ℕ → ℕ → ℕ → ℕ → ℕ → List ℕ
 program_header flags offset address file_size memory_size =
     word 1 ++ (word flags ++ flat_map xword (offset ∷ address ∷ address ∷ file_size ∷ memory_size ∷ 4096 ∷ []))
 
--- the headers: the text is readable and executable (PF_R, PF_X), the data readable and writable (PF_R, PF_W)
-abbrev pub headers : ℕ → List ℕ → List ℕ
-headers frame code =
+-- the headers: the text is readable and executable (PF_R, PF_X), the data readable and writable (PF_R, PF_W), of which
+-- so many bytes are stored in the file
+abbrev pub headers_with : ℕ → ℕ → ℕ → List ℕ → List ℕ
+headers_with stored arrays frame code =
     elf_header
     ++ (program_header 5 0x1000 start_address (text_size code) (text_size code)
-    ++ program_header 6 (data_address code - 0xf000) (data_address code) 0 (stack_top frame code - data_address code))
+    ++ program_header 6 (data_address code - 0xf000) (data_address code) stored (top_behind arrays frame code - data_address code))
 
 -- the stubs, and the code of the functions at 0x10064
-abbrev pub text_of : ℕ → ℕ → List ℕ → List ℕ
-text_of main frame code = code_bytes (stubs (stack_top frame code) (scratch_address code) main) ++ code
+abbrev pub text_with : ℕ → ℕ → ℕ → List ℕ → List ℕ
+text_with arrays main frame code = code_bytes (stubs (top_behind arrays frame code) (scratch_behind arrays code) main) ++ code
 
--- The file for the code of all functions, of which `main` begins at this address and the largest frame has this size.
--- What lies between the headers, the text and the data's place in the file is zero.
+-- The file for the code of all functions, of which `main` begins at this address and the largest frame has this size,
+-- for the bytes of the arrays that are stored, and for all-zero arrays of so many bytes. What lies between the headers,
+-- the text and the data's place in the file is zero.
+abbrev pub image_with : ℕ → ℕ → List ℕ → List ℕ → ℕ → List ℕ
+image_with main frame code stored zeroed =
+    let arrays = length stored + zeroed in
+    headers_with (length stored) arrays frame code ++ (replicate (0x1000 - 176) 0
+    ++ (text_with arrays main frame code ++ (replicate (data_address code - start_address - text_size code) 0 ++ stored)))
+
+-- ---- the image of a program without arrays
+
+abbrev pub scratch_address : List ℕ → ℕ
+scratch_address code = scratch_behind 0 code
+
+abbrev pub stack_top : ℕ → List ℕ → ℕ
+stack_top frame code = top_behind 0 frame code
+
+abbrev pub headers : ℕ → List ℕ → List ℕ
+headers frame code = headers_with 0 0 frame code
+
+abbrev pub text_of : ℕ → ℕ → List ℕ → List ℕ
+text_of main frame code = text_with 0 main frame code
+
 abbrev pub image_of : ℕ → ℕ → List ℕ → List ℕ
-image_of main frame code =
-    headers frame code ++ (replicate (0x1000 - 176) 0
-    ++ (text_of main frame code ++ replicate (data_address code - start_address - text_size code) 0))
+image_of main frame code = image_with main frame code [] 0

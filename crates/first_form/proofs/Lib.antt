@@ -1,5 +1,4 @@
 pub mod FormLaws
-pub mod ImageLaws
 pub mod TemplateLaws
 pub mod MachineLaws
 pub mod FollowLaws

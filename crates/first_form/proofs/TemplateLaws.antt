@@ -22,11 +22,7 @@ use Rattle.first_form.specs.declared.form.FirstForm.{FirstForm}
 use Rattle.first_form.specs.declared.form.Literal.{Literal}
 use Rattle.first_form.specs.declared.form.Literal.TheVariants.{Plain, Negated}
 use Rattle.first_form.specs.Form.{IsInt, value_of, put_of, return_of, body_of, main_of, stub_address, putchar_code, main_code}
-use Rattle.follow_laws.proofs.ImageLaws.{code_bytes-append}
-
-pub on_ok : {T E : Type 0} (r : Result T E) (P Q : Type 0) → (P → Q) → OnOk r P → OnOk r Q
-on_ok (Ok x) P Q f p = f p
-on_ok (Err e) P Q f p = p
+use Rattle.final_link.proofs.CodeLaws.{code_bytes-append, two-codes}
 
 -- ---- constants
 
@@ -125,9 +121,6 @@ main-is form all h =
     at-is = rw enter-is refl
 
 -- ---- bytes behind one another
-
-pub two-codes : (a b c : List ℕ) (xs ys : List Instr) → b ≡ a ++ code_bytes xs → c ≡ b ++ code_bytes ys → c ≡ a ++ code_bytes (xs ++ ys)
-two-codes a b c xs ys e f = f ∙ ap (λ (l : List ℕ). l ++ code_bytes ys) e ∙ append_assoc a (code_bytes xs) (code_bytes ys) ∙ ap (λ (l : List ℕ). a ++ l) (sym (code_bytes-append xs ys))
 
 pub signed-fits : (c : ℤ) → IsSigned (2 ^ 32) c → FitsSigned w32 c
 signed-fits (pos n) h = omega (arith, ints)

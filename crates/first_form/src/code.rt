@@ -1,17 +1,17 @@
 // Machine code behind one another, by the templates that `rv64_select` defines.
 ghost use Rattle.std.specs.Prelude.{◌≡◌, ◌<◌, ◌+◌, ◌*◌, ◌++◌, ◌^◌, ◌≤◌, All, OnOk, IfOk, vec_len, length};
-ghost use Rattle.rv64_isa.specs.Words.{InRange};
 ghost use Rattle.rv64_abi.specs.Offsets.{call};
 ghost use Rattle.rv64_select.specs.Templates.{is_signed_in, long_constant, constant};
 ghost use Rattle.rv64_select.specs.Code.{enter_code, leave_code};
 ghost use Rattle.final_link.specs.Stubs.{functions_address};
-ghost use Rattle.final_link.specs.Image.{word_bytes, code_bytes, AllInRange};
+ghost use Rattle.final_link.specs.Image.{code_bytes};
 ghost use Rattle.first_form.specs.Form.{IsInt, value_of, putchar_code, main_code};
 
 use crate::form::{FirstForm, Literal, MOST_CALLS};
+use final_link::put_all;
 use gimple_ir::NoMemory;
 use rv64_abi::{A0, RA, SP, T0, lower, upper};
-use rv64_isa::{Instr, encode};
+use rv64_isa::Instr;
 use std::alloc::Global;
 
 /// Where the functions begin, behind the stubs.
@@ -22,27 +22,6 @@ pub const MAIN_FRAME: u32 = 16;
 
 // Where the stub of putchar begins.
 const PUTCHAR: u32 = 0x10018;
-
-#[tactic(auto, unfolding(final_link::specs::Image::word_bytes))]
-fn put(out: &mut Vec<u8>, instr: Instr) -> Result<(), NoMemory>
-    requires { InRange instr }
-    ensures word { OnOk result (out.new.items ≡ out.old.items ++ word_bytes instr) }
-    ensures len { OnOk result (vec_len out.new ≡ vec_len out.old + 4) }
-{
-    out.extend_from_slice(&encode(instr).to_le_bytes())
-}
-
-/// Appends the words of instructions.
-pub fn put_all(out: &mut Vec<u8>, instrs: &[Instr]) -> Result<(), NoMemory>
-    requires { AllInRange instrs.now }
-    ensures words { OnOk result (out.new.items ≡ out.old.items ++ code_bytes instrs.now) }
-    ensures len { OnOk result (vec_len out.new ≡ vec_len out.old + 4 * length instrs.now) }
-{
-    for instr in instrs {
-        put(out, *instr)?;
-    }
-    Ok(())
-}
 
 fn is_short(value: i32) -> bool
     ensures { result ≡ is_signed_in 12 value }

@@ -5,7 +5,7 @@ ghost use Rattle.first_form.specs.Compiled.{IsImageOf};
 
 use crate::code::{FUNCTIONS, MAIN_FRAME, main_code};
 use crate::form::{FormFault, read_form};
-use crate::image::make_image;
+use final_link::make_image;
 use std::alloc::Global;
 
 /// The image of the program that a text of the first form spells; it follows that program. The text has at most 2^32 - 2
@@ -17,6 +17,6 @@ pub fn compile(alloc: Global, text: &[u8]) -> Result<Vec<u8>, FormFault>
 {
     let form = read_form(alloc, text)?;
     let code = main_code(alloc, &form)?;
-    let image = make_image(alloc, FUNCTIONS, MAIN_FRAME, &code)?;
+    let image = make_image(alloc, FUNCTIONS, MAIN_FRAME, &code, &[], 0)?;
     Ok(image)
 }

@@ -13,20 +13,12 @@ use Rattle.rv64_meaning.specs.Loading as loading
 use Rattle.rv64_meaning.proofs.ByteLaws.{fetch_here, word_in_text}
 use Rattle.final_link.specs.Stubs.{stubs}
 use Rattle.final_link.specs.Image.{word_bytes, code_bytes, AllInRange, half, word, xword, elf_header, headers, text_size, data_address, scratch_address, stack_top, text_of, image_of}
+use Rattle.final_link.proofs.CodeLaws.{code_bytes-cons, code_bytes-append}
 use Rattle.follow_laws.specs.Relation.{StandsAt}
 use Rattle.follow_laws.proofs.EncodingLaws.{all_append, stubs_encode}
-use Rattle.follow_laws.specs.Images.{placed, ImageHasSegments, ImageHasCode}
+use Rattle.follow_laws.specs.Images.{placed, IsSmall, ImageHasSegments, ImageHasCode}
 
 -- ---- bytes of code
-
-code_bytes-cons : (i : Instr) (is : List Instr) → code_bytes (i ∷ is) ≡ word_bytes i ++ code_bytes is
-unfolding code_bytes
-code_bytes-cons i is = refl
-
-pub code_bytes-append : (xs ys : List Instr) → code_bytes (xs ++ ys) ≡ code_bytes xs ++ code_bytes ys
-unfolding code_bytes
-code_bytes-append [] ys = refl
-code_bytes-append (x ∷ xs) ys = ap (λ (bs : List ℕ). word_bytes x ++ bs) (code_bytes-append xs ys) ∙ sym (append_assoc (word_bytes x) (code_bytes xs) (code_bytes ys))
 
 length-word_bytes : (i : Instr) → length (word_bytes i) ≡ 4
 unfolding word_bytes
@@ -128,10 +120,18 @@ segments text start end = record { text = text; data_start = start; data_end = e
 segments_at : (text text' : List ℕ) (a a' b b' : ℕ) → text ≡ text' → a ≡ a' → b ≡ b' → segments text a b ≡ segments text' a' b'
 segments_at text text' a a' b b' e f g = ap (λ t. segments t a b) e ∙ ap (λ n. segments text' n b) f ∙ ap (λ n. segments text' a' n) g
 
-pub image_has_segments : ImageHasSegments
-image_has_segments main frame code small =
+-- the image of a program without arrays, which ends with the zeros behind its text
+pub image_ends : (main frame : ℕ) (code : List ℕ) → image_of main frame code
+    ≡ headers frame code ++ (replicate 3920 0 ++ (text_of main frame code ++ replicate (data_address code - 0x10000 - text_size code) 0))
+image_ends main frame code =
+    ap (λ (l : List ℕ). headers frame code ++ (replicate 3920 0 ++ (text_of main frame code ++ l))) (append-nil (replicate (data_address code - 0x10000 - text_size code) 0))
+
+has_segments : (main frame : ℕ) (code : List Instr) → IsSmall frame code
+    → loading.segments_of (headers frame (code_bytes code) ++ (replicate 3920 0 ++ (text_of main frame (code_bytes code) ++ replicate (data_address (code_bytes code) - 0x10000 - text_size (code_bytes code)) 0)))
+    ≡ placed main frame code
+has_segments main frame code small =
     let bytes = code_bytes code in
-    let image = image_of main frame bytes in
+    let image = headers frame bytes ++ (replicate 3920 0 ++ (text_of main frame bytes ++ replicate (data_address bytes - 0x10000 - text_size bytes) 0)) in
     let len = length-code_bytes code in
     let size = text_field frame bytes (replicate 3920 0 ++ (text_of main frame bytes ++ replicate (data_address bytes - 0x10000 - text_size bytes) 0)) (omega (arith, len, small.text)) in
     let room = data_field frame bytes (replicate 3920 0 ++ (text_of main frame bytes ++ replicate (data_address bytes - 0x10000 - text_size bytes) 0)) (omega (arith, small.stack)) in
@@ -141,6 +141,9 @@ image_has_segments main frame code small =
     ∙ text_found (before frame bytes) (text_of main frame bytes) (replicate (data_address bytes - 0x10000 - text_size bytes) 0) 4096 (text_size bytes) (length-before frame bytes) (length-text main frame bytes) in
     let end : loading.data_start image + loading.data_size image ≡ stack_top frame bytes = ap (λ n. n + loading.data_size image) start ∙ ap (λ n. data_address bytes + n) room ∙ omega arith in
     segments_at _ _ _ _ _ _ text start end
+
+pub image_has_segments : ImageHasSegments
+image_has_segments main frame code small = ap loading.segments_of (image_ends main frame (code_bytes code)) ∙ has_segments main frame code small
 
 -- ---- stubs and code
 

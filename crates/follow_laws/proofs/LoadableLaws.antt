@@ -12,7 +12,7 @@ use Rattle.rv64_meaning.specs.Loading.{Field, number_at, identification, file_he
 use Rattle.rv64_meaning.specs.Loading as loading
 use Rattle.final_link.specs.Image.{code_bytes, half, word, xword, elf_header, headers, text_size, data_address, stack_top, text_of}
 use Rattle.follow_laws.specs.Images.{ImageLoads}
-use Rattle.follow_laws.proofs.ImageLaws.{length-code_bytes, eight_bytes, text_field, stored_field, data_field, length-headers, length-text, length-before, before, before_is, same_start}
+use Rattle.follow_laws.proofs.ImageLaws.{length-code_bytes, eight_bytes, text_field, stored_field, data_field, length-headers, length-text, length-before, before, before_is, same_start, image_ends}
 
 -- ---- fields
 
@@ -157,4 +157,4 @@ pub image_loads : ImageLoads
 image_loads main frame code small =
     let bytes = code_bytes code in
     let len = length-code_bytes code in
-    loads_by frame bytes (text_of main frame bytes) (length-text main frame bytes) (omega (arith, len)) (omega (arith, len, small.text)) (omega (arith, small.stack))
+    ap load_fault_of (image_ends main frame bytes) ∙ loads_by frame bytes (text_of main frame bytes) (length-text main frame bytes) (omega (arith, len)) (omega (arith, len, small.text)) (omega (arith, small.stack))

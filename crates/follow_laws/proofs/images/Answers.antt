@@ -1,4 +1,5 @@
-use Rattle.follow_laws.proofs.ImageLaws.{code_bytes-append, length-code_bytes, image_has_segments, image_has_code}
+use Rattle.final_link.proofs.CodeLaws.{code_bytes-append}
+use Rattle.follow_laws.proofs.ImageLaws.{length-code_bytes, image_has_segments, image_has_code}
 use Rattle.follow_laws.proofs.LoadableLaws.{image_loads}
 use Rattle.follow_laws.proofs.images.Goals as goal
 

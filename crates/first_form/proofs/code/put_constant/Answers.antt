@@ -1,7 +1,8 @@
 use Rattle.std.proofs.Common.{◌++◌, length, vec_len, ◌+◌, ◌*◌, sym, ap, ◌∙◌}
 use Rattle.std.proofs.lemmas.Int.{to_z-of_z}
 use Rattle.final_link.specs.Image.{code_bytes}
-use Rattle.first_form.proofs.TemplateLaws.{on_ok, constant-short, constant-long, fits-signed}
+use Rattle.final_link.proofs.CodeLaws.{on_ok}
+use Rattle.first_form.proofs.TemplateLaws.{constant-short, constant-long, fits-signed}
 use Rattle.first_form.proofs.code.put_constant.Goals as goal
 
 pub returns-then-is_short-clause-words : goal.returns-then-is_short-clause-words

@@ -1,6 +1,7 @@
 use Rattle.std.proofs.Common.{◌++◌, sym, ap, ◌∙◌}
 use Rattle.final_link.specs.Image.{code_bytes}
-use Rattle.first_form.proofs.TemplateLaws.{on_ok, enter-is}
+use Rattle.final_link.proofs.CodeLaws.{on_ok}
+use Rattle.first_form.proofs.TemplateLaws.{enter-is}
 use Rattle.first_form.proofs.code.put_entry.Goals as goal
 
 pub returns-clause-words : goal.returns-clause-words

@@ -4,7 +4,8 @@ use Rattle.rv64_abi.specs.Offsets.{call}
 use Rattle.final_link.specs.Stubs.{functions_address, putchar_address}
 use Rattle.final_link.specs.Image.{code_bytes}
 use Rattle.first_form.specs.Form.{value_of}
-use Rattle.first_form.proofs.TemplateLaws.{on_ok, int-fits, putchar-bytes}
+use Rattle.final_link.proofs.CodeLaws.{on_ok}
+use Rattle.first_form.proofs.TemplateLaws.{int-fits, putchar-bytes}
 use Rattle.first_form.proofs.code.put_putchar.Goals as goal
 
 pub returns-clause-words : goal.returns-clause-words

@@ -1,0 +1,10 @@
+pub mod CodeLaws
+pub mod NameLaws
+pub mod PlaceLaws
+pub mod RelocationLaws
+pub mod MemberLaws
+pub mod FrameLaws
+pub mod ArrayLaws
+pub mod ImageLaws
+pub mod FillingLaws
+pub mod PlacingLaws

@@ -25,6 +25,7 @@ mod sections;
 mod writing;
 
 pub use fault::{ElfError, ElfFault, ElfKind};
+pub use format::{R_RISCV_CALL_PLT, R_RISCV_HI20, R_RISCV_LO12_I, R_RISCV_LO12_S};
 pub use object_reading::read_object_form;
 pub use reading::read_rel;
 pub use relocatable::{FormError, RelSymbol, Reloc, RelocObject, write_object};

@@ -15,7 +15,7 @@ use Rattle.gimple_meaning.specs.Systems.{Machine, State, Running, Ended, Undefin
 use Rattle.gimple_meaning.specs.Source.{source_of, effect_in}
 use Rattle.gimple_meaning.specs.Run.{run}
 use Rattle.rv64_select.specs.Templates.{constant, is_signed_in}
-use Rattle.rv64_select.specs.Code.{enter_code, leave_code}
+use Rattle.rv64_select.specs.Assembly.{enter_code, leave_code}
 use Rattle.rv64_abi.specs.Offsets.{call}
 use Rattle.rv64_abi.specs.Registers.{a0}
 use Rattle.rv64_frame.specs.Frames.{frame_size}

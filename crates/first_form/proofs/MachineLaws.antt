@@ -9,7 +9,7 @@ use Rattle.rv64_meaning.proofs.MemoryLaws.{load_same, load_apart}
 use Rattle.gimple_meaning.specs.Acts.{low_byte}
 use Rattle.rv64_abi.specs.Offsets.{call}
 use Rattle.rv64_select.specs.Templates.{constant}
-use Rattle.rv64_select.specs.Code.{enter_code, leave_code}
+use Rattle.rv64_select.specs.Assembly.{enter_code, leave_code}
 use Rattle.final_link.specs.Stubs.{putchar_address, start_stub, putchar_stub}
 use Rattle.follow_laws.specs.Relation.{StandsAt, ComesTo, EndsWith}
 use Rattle.follow_laws.specs.Effects.{with_register, called}

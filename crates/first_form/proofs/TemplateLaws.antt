@@ -3,6 +3,7 @@ use Rattle.std.proofs.Common.{◌≡◌, ℕ, ◌+◌, ◌*◌, ◌^◌, true, f
 use Rattle.std.proofs.lemmas.List.{append-nil}
 use Rattle.std.specs.Prelude.{ℤ, pos, negsuc, map, All, Result, Ok, Err, OnOk, FitsSigned}
 use Rattle.std.specs.Int.{w32}
+use Rattle.std.specs.List.{flat_map}
 use Rattle.std.proofs.lemmas.Bool.{lt-ltb}
 use Rattle.std.proofs.lemmas.Bool.Decides.{nat_tests}
 use Rattle.std.proofs.lemmas.Int.{ints}
@@ -13,9 +14,14 @@ use Rattle.rv64_isa.specs.declared.instr.Instr.TheVariants.{Addi, Add, Sd, Ld, J
 use Rattle.rv64_isa.specs.Format.{IsSigned}
 use Rattle.rv64_abi.specs.Offsets.{call}
 use Rattle.rv64_abi.specs.Registers.{a0}
-use Rattle.rv64_frame.specs.Frames.{outgoing_of, frame_size, return_slot}
+use Rattle.rv64_frame.specs.Frames.{outgoing_of, frame_size, return_slot, return_in, frame_of}
+use Rattle.rv64_select.specs.declared.item.Symbol.TheVariants as symbols
+use Rattle.rv64_select.specs.declared.item.Item.{Item}
+use Rattle.rv64_select.specs.declared.item.Item.TheVariants as item
 use Rattle.rv64_select.specs.Templates.{is_signed_in, long_constant, constant_in, constant, machine_form}
-use Rattle.rv64_select.specs.Code.{enter_code, leave_code, entry_code, steps_code, step_code}
+use Rattle.rv64_select.specs.Assembly.{plain, enter_code, leave_code, entry_items, step_items}
+use Rattle.rv64_select.specs.Code.{Places, places_of, direct, steps_code, step_code}
+use Rattle.rv64_select.proofs.Laying.{direct-plain, direct-front, steps-cons}
 use Rattle.final_link.specs.Stubs.{functions_address, putchar_address}
 use Rattle.final_link.specs.Image.{code_bytes}
 use Rattle.first_form.specs.declared.form.FirstForm.{FirstForm}
@@ -92,33 +98,52 @@ frame-is form = rw (outgoing-none form.calls form.status) refl
 slot-is : (form : FirstForm) → return_slot (main_of form) ≡ 0
 slot-is form = rw (outgoing-none form.calls form.status) refl
 
-entry-is : (form : FirstForm) → entry_code (main_of form) ≡ enter_code 16 0
-entry-is form = ap₂ (λ size slot. enter_code size slot ++ []) (frame-is form) (slot-is form) ∙ append-nil (enter_code 16 0)
+-- where the labels and the stubs are
+abbrev places_in : FirstForm → Places
+places_in form = places_of stub_address (main_of form) functions_address
 
-put-is : (form : FirstForm) (at : ℕ) (l : Literal) → IsInt l → step_code stub_address (main_of form) at (put_of l) ≡ putchar_code at (value_of l)
-put-is form at l h = ap (λ (c : ℤ). constant a0 c ++ call (at + 4 * length (constant a0 c)) putchar_address) (form-same (value_of l) (int-signed l h))
+entry-is : (form : FirstForm) (p : Places) (at : ℕ) (items : List Item)
+    → direct p at (entry_items (frame_of (main_of form)) [] ++ items) ≡ enter_code 16 0 ++ direct p (at + 12) items
+entry-is form p at items =
+    let layout = frame_of (main_of form) in
+    let code : enter_code layout.size (return_in layout) ≡ enter_code 16 0 = ap₂ enter_code (frame-is form) (slot-is form) in
+    ap (λ (xs : List Item). direct p at (xs ++ items)) (append-nil (plain (enter_code layout.size (return_in layout))))
+    ∙ ap (λ (is : List Instr). direct p at (plain is ++ items)) code
+    ∙ direct-front p at (enter_code 16 0) items
+    ∙ ap (λ (k : ℕ). enter_code 16 0 ++ direct p k items) (rw enter-is refl)
 
-return-is : (form : FirstForm) (at : ℕ) → IsInt form.status → step_code stub_address (main_of form) at (return_of form.status) ≡ constant a0 (value_of form.status) ++ leave_code 16 0
-return-is form at h = ap₂ (λ (is js : List Instr). is ++ js) (ap (constant a0) (form-same (value_of form.status) (int-signed form.status h))) (ap₂ leave_code (frame-is form) (slot-is form))
+put-is : (form : FirstForm) (at : ℕ) (l : Literal) → IsInt l → step_code (places_in form) (main_of form) at (put_of l) ≡ putchar_code at (value_of l)
+put-is form at l h =
+    direct-front (places_in form) at (constant a0 (machine_form types.Int (value_of l))) (item.Call symbols.Putchar ∷ [])
+    ∙ ap (λ (c : ℤ). constant a0 c ++ (call (at + 4 * length (constant a0 c)) putchar_address ++ [])) (form-same (value_of l) (int-signed l h))
+    ∙ ap (λ (is : List Instr). constant a0 (value_of l) ++ is) (append-nil (call (at + 4 * length (constant a0 (value_of l))) putchar_address))
+
+return-is : (form : FirstForm) (at : ℕ) → IsInt form.status → step_code (places_in form) (main_of form) at (return_of form.status) ≡ constant a0 (value_of form.status) ++ leave_code 16 0
+return-is form at h =
+    let layout = frame_of (main_of form) in
+    let leave = leave_code layout.size (return_in layout) in
+    direct-front (places_in form) at (constant a0 (machine_form types.Int (value_of form.status))) (plain leave)
+    ∙ ap (λ (is : List Instr). constant a0 (machine_form types.Int (value_of form.status)) ++ is)
+    (direct-plain (places_in form) (at + 4 * length (constant a0 (machine_form types.Int (value_of form.status)))) leave ∙ ap₂ leave_code (frame-is form) (slot-is form))
+    ∙ ap (λ (c : ℤ). constant a0 c ++ leave_code 16 0) (form-same (value_of form.status) (int-signed form.status h))
 
 steps-are : (form : FirstForm) (at : ℕ) (ls : List Literal) → All IsInt ls → IsInt form.status
-    → steps_code stub_address (main_of form) at (map put_of ls ++ return_of form.status ∷ []) ≡ puts_code at ls ++ (constant a0 (value_of form.status) ++ leave_code 16 0)
+    → steps_code (places_in form) (main_of form) at (map put_of ls ++ return_of form.status ∷ []) ≡ puts_code at ls ++ (constant a0 (value_of form.status) ++ leave_code 16 0)
 unfolding puts_code
-steps-are form at [] all h = append-nil _ ∙ return-is form at h
+steps-are form at [] all h = steps-cons (places_in form) (main_of form) at (return_of form.status) [] ∙ append-nil _ ∙ return-is form at h
 steps-are form at (l ∷ ls) all h =
     let one = put-is form at l (All-head IsInt l ls all) in
-    ap (λ (is : List Instr). is ++ steps_code stub_address (main_of form) (at + 4 * length is) (map put_of ls ++ return_of form.status ∷ [])) one
+    let rest = map put_of ls ++ return_of form.status ∷ [] in
+    steps-cons (places_in form) (main_of form) at (put_of l) rest
+    ∙ ap (λ (is : List Instr). is ++ steps_code (places_in form) (main_of form) (at + 4 * length is) rest) one
     ∙ ap (λ (is : List Instr). putchar_code at (value_of l) ++ is) (steps-are form (at + 4 * length (putchar_code at (value_of l))) ls (All-tail IsInt l ls all) h)
     ∙ sym (append_assoc (putchar_code at (value_of l)) (puts_code (at + 4 * length (putchar_code at (value_of l))) ls) _)
 
 pub main-is : (form : FirstForm) → All IsInt form.calls → IsInt form.status
     → main_code form ≡ enter_code 16 0 ++ (puts_code (functions_address + 12) form.calls ++ (constant a0 (value_of form.status) ++ leave_code 16 0))
 main-is form all h =
-    ap (λ (is : List Instr). is ++ steps_code stub_address (main_of form) (functions_address + 4 * length is) (body_of form)) (entry-is form)
-    ∙ ap (λ (is : List Instr). enter_code 16 0 ++ is) (ap (λ (k : ℕ). steps_code stub_address (main_of form) k (body_of form)) at-is ∙ steps-are form (functions_address + 12) form.calls all h)
-  where
-    at-is : functions_address + 4 * length (enter_code 16 0) ≡ functions_address + 12
-    at-is = rw enter-is refl
+    entry-is form (places_in form) functions_address (flat_map (step_items (frame_of (main_of form)) (main_of form)) (body_of form))
+    ∙ ap (λ (is : List Instr). enter_code 16 0 ++ is) (steps-are form (functions_address + 12) form.calls all h)
 
 -- ---- bytes behind one another
 

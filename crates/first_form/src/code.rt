@@ -2,7 +2,7 @@
 ghost use Rattle.std.specs.Prelude.{◌≡◌, ◌<◌, ◌+◌, ◌*◌, ◌++◌, ◌^◌, ◌≤◌, All, OnOk, IfOk, vec_len, length};
 ghost use Rattle.rv64_abi.specs.Offsets.{call};
 ghost use Rattle.rv64_select.specs.Templates.{is_signed_in, long_constant, constant};
-ghost use Rattle.rv64_select.specs.Code.{enter_code, leave_code};
+ghost use Rattle.rv64_select.specs.Assembly.{enter_code, leave_code};
 ghost use Rattle.final_link.specs.Stubs.{functions_address};
 ghost use Rattle.final_link.specs.Image.{code_bytes};
 ghost use Rattle.first_form.specs.Form.{IsInt, value_of, putchar_code, main_code};

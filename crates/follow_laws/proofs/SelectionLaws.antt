@@ -1,5 +1,5 @@
 -- Where steps stand, and what operands leave.
-use Rattle.std.proofs.Common.{◌≡◌, ℕ, zero, suc, ◌+◌, ◌-◌, ◌*◌, ◌^◌, ◌<◌, ◌≤◌, ℤ, pos, negsuc, Bool, true, false, cond, List, [], ◌∷◌, length, Some, refl, subst, arith, length-append}
+use Rattle.std.proofs.Common.{◌≡◌, ℕ, zero, suc, ◌+◌, ◌-◌, ◌*◌, ◌^◌, ◌<◌, ◌≤◌, ℤ, pos, negsuc, Bool, true, false, cond, List, [], ◌∷◌, length, Some, refl, ap, subst, arith, length-append}
 use Rattle.std.specs.Prelude.{nat_lt}
 use Rattle.std.proofs.lemmas.Bool.Decides.{nat_tests}
 use Rattle.gimple_ir.specs.declared.types.ScalarType.{ScalarType}
@@ -12,7 +12,8 @@ use Rattle.rv64_isa.proofs.FormatLaws.{residue_lt}
 use Rattle.rv64_meaning.specs.Machine.{Segments}
 use Rattle.rv64_frame.specs.Frames.{component_slot}
 use Rattle.rv64_select.specs.Templates.{machine_form}
-use Rattle.rv64_select.specs.Code.{step_code, steps_code}
+use Rattle.rv64_select.specs.Code.{Places, step_code, steps_code}
+use Rattle.rv64_select.proofs.Laying.{steps-cons}
 use Rattle.follow_laws.specs.Relation.{StandsAt}
 use Rattle.follow_laws.specs.Selections.{address_of, StepStands, StepsStand, OperandSets, OperandEncodes}
 use Rattle.follow_laws.proofs.WayLaws.{stands_front, stands_back}
@@ -24,32 +25,34 @@ use Rattle.follow_laws.proofs.EncodingLaws.{constant_encodes, load_encodes}
 some_step : (x y : Step) → Some x ≡ Some y → x ≡ y
 some_step x y e = cc
 
-first_stands : (m : Segments) (symbols : List ℕ → ℕ) (f : VersionedFunction) (at : ℕ) (step : Step) (steps : List Step) → StandsAt m at (steps_code symbols f at (step ∷ steps)) → StepStands m symbols f at (step ∷ steps) zero step
-first_stands m symbols f at step steps has =
-    let first = step_code symbols f at step in
+first_stands : (m : Segments) (places : Places) (f : VersionedFunction) (at : ℕ) (step : Step) (steps : List Step) → StandsAt m at (steps_code places f at (step ∷ steps)) → StepStands m places f at (step ∷ steps) zero step
+first_stands m places f at step steps has =
+    let first = step_code places f at step in
     let behind = at + 4 * length first in
-    let rest = steps_code symbols f behind steps in
-    let start = address_start symbols f behind steps in
+    let rest = steps_code places f behind steps in
+    let start = address_start places f behind steps in
+    let parts = steps-cons places f at step steps in
     record {
-      code = stands_front m at first rest has;
+      code = stands_front m at first rest (subst (StandsAt m at) parts has);
       next = start;
-      within = omega (arith, start, length-append first rest);
+      within = omega (arith, start, ap length parts, length-append first rest);
       aligned = refl;
     }
   where
-    address_start : (symbols : List ℕ → ℕ) (f : VersionedFunction) (at : ℕ) (steps : List Step) → address_of symbols f at steps zero ≡ at
-    address_start symbols f at [] = refl
-    address_start symbols f at (step ∷ steps) = refl
+    address_start : (places : Places) (f : VersionedFunction) (at : ℕ) (steps : List Step) → address_of places f at steps zero ≡ at
+    address_start places f at [] = refl
+    address_start places f at (step ∷ steps) = refl
 
 pub steps_stand : StepsStand
-steps_stand m symbols f at [] place step e has = cc
-steps_stand m symbols f at (first ∷ steps) zero step e has = subst (StepStands m symbols f at (first ∷ steps) zero) (some_step first step e) (first_stands m symbols f at first steps has)
-steps_stand m symbols f at (first ∷ steps) (suc place) step e has =
-    let code = step_code symbols f at first in
+steps_stand m places f at [] place step e has = cc
+steps_stand m places f at (first ∷ steps) zero step e has = subst (StepStands m places f at (first ∷ steps) zero) (some_step first step e) (first_stands m places f at first steps has)
+steps_stand m places f at (first ∷ steps) (suc place) step e has =
+    let code = step_code places f at first in
     let behind = at + 4 * length code in
-    let rest = steps_code symbols f behind steps in
-    let r = steps_stand m symbols f behind steps place step e (stands_back m at code rest has) in
-    record { code = r.code; next = r.next; within = omega (arith, r.within, length-append code rest); aligned = omega (arith, r.aligned) }
+    let rest = steps_code places f behind steps in
+    let parts = steps-cons places f at first steps in
+    let r = steps_stand m places f behind steps place step e (stands_back m at code rest (subst (StandsAt m at) parts has)) in
+    record { code = r.code; next = r.next; within = omega (arith, r.within, ap length parts, length-append code rest); aligned = omega (arith, r.aligned) }
 
 -- ---- operands
 

@@ -7,7 +7,7 @@ use Rattle.rv64_meaning.specs.Machine.{Segments, State, read_reg, set_at, load, 
 use Rattle.rv64_abi.specs.Registers.{ra, sp, t0, a0, a7, t3}
 use Rattle.rv64_abi.specs.Offsets.{call}
 use Rattle.rv64_select.specs.Templates.{constant, load_slot, store_slot}
-use Rattle.rv64_select.specs.Code.{enter_code, leave_code}
+use Rattle.rv64_select.specs.Assembly.{enter_code, leave_code}
 use Rattle.final_link.specs.Stubs.{start_address, start_stub, putchar_stub, getchar_stub}
 use Rattle.follow_laws.specs.Relation.{StandsAt, Leads, ComesTo, EndsWith}
 

@@ -4,7 +4,7 @@ use Rattle.rv64_isa.specs.declared.instr.Instr.{Instr}
 use Rattle.rv64_abi.specs.Offsets.{call}
 use Rattle.rv64_isa.specs.Format.{IsRegister}
 use Rattle.rv64_select.specs.Templates.{constant, load_slot, store_slot}
-use Rattle.rv64_select.specs.Code.{enter_code, leave_code}
+use Rattle.rv64_select.specs.Assembly.{enter_code, leave_code}
 use Rattle.final_link.specs.Stubs.{stubs}
 use Rattle.final_link.specs.Image.{AllInRange}
 

@@ -10,7 +10,7 @@ use Rattle.rv64_meaning.specs.Machine.{Segments, State, load, can_load}
 use Rattle.rv64_abi.specs.Registers.{sp}
 use Rattle.rv64_frame.specs.Frames.{component_slot}
 use Rattle.rv64_select.specs.Templates.{machine_form}
-use Rattle.rv64_select.specs.Code.{operand_code, step_code, steps_code}
+use Rattle.rv64_select.specs.Code.{Places, operand_code, step_code, steps_code}
 use Rattle.final_link.specs.Image.{AllInRange}
 use Rattle.follow_laws.specs.Relation.{StandsAt, Leads}
 use Rattle.follow_laws.specs.Effects.{Differ, with_register}
@@ -18,23 +18,23 @@ use Rattle.follow_laws.specs.Effects.{Differ, with_register}
 -- ---- steps
 
 -- the address of the step with this number, or behind the last
-abbrev pub address_of : (List ℕ → ℕ) → VersionedFunction → ℕ → List Step → ℕ → ℕ
-address_of symbols f at [] place = at
-address_of symbols f at (step ∷ steps) zero = at
-address_of symbols f at (step ∷ steps) (suc place) = address_of symbols f (at + 4 * length (step_code symbols f at step)) steps place
+abbrev pub address_of : Places → VersionedFunction → ℕ → List Step → ℕ → ℕ
+address_of places f at [] place = at
+address_of places f at (step ∷ steps) zero = at
+address_of places f at (step ∷ steps) (suc place) = address_of places f (at + 4 * length (step_code places f at step)) steps place
 
 -- what is known of a step of a function whose steps stand at an address
-pub record StepStands (m : Segments) (symbols : List ℕ → ℕ) (f : VersionedFunction) (at : ℕ) (steps : List Step) (place : ℕ) (step : Step) : Type 0 where
-  pub code : StandsAt m (address_of symbols f at steps place) (step_code symbols f (address_of symbols f at steps place) step)
+pub record StepStands (m : Segments) (places : Places) (f : VersionedFunction) (at : ℕ) (steps : List Step) (place : ℕ) (step : Step) : Type 0 where
+  pub code : StandsAt m (address_of places f at steps place) (step_code places f (address_of places f at steps place) step)
   -- the next step is behind it, before the end of all
-  pub next : address_of symbols f at steps (suc place) ≡ address_of symbols f at steps place + 4 * length (step_code symbols f (address_of symbols f at steps place) step)
-  pub within : address_of symbols f at steps (suc place) ≤ at + 4 * length (steps_code symbols f at steps)
-  pub aligned : address_of symbols f at steps place % 4 ≡ at % 4
+  pub next : address_of places f at steps (suc place) ≡ address_of places f at steps place + 4 * length (step_code places f (address_of places f at steps place) step)
+  pub within : address_of places f at steps (suc place) ≤ at + 4 * length (steps_code places f at steps)
+  pub aligned : address_of places f at steps place % 4 ≡ at % 4
 
 abbrev pub StepsStand : Type 0
 StepsStand =
-    (m : Segments) (symbols : List ℕ → ℕ) (f : VersionedFunction) (at : ℕ) (steps : List Step) (place : ℕ) (step : Step)
-    → slice_get steps place ≡ Some step → StandsAt m at (steps_code symbols f at steps) → StepStands m symbols f at steps place step
+    (m : Segments) (places : Places) (f : VersionedFunction) (at : ℕ) (steps : List Step) (place : ℕ) (step : Step)
+    → slice_get steps place ≡ Some step → StandsAt m at (steps_code places f at steps) → StepStands m places f at steps place step
 
 -- ---- operands
 

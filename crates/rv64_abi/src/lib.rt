@@ -6,4 +6,4 @@ mod offset;
 mod register;
 
 pub use offset::{lower, upper};
-pub use register::{A0, A1, A2, A7, RA, SP, T0};
+pub use register::{A0, A1, A2, A7, RA, SP, T0, T1, T2, T3};

@@ -1,3 +1,6 @@
-//! The frame of a function: where its slots lie from the stack pointer up. `specs/Frames.antt` has the layout; the code
-//! that computes it comes with the rest of the step table.
+//! The frame of a function: where its slots lie from the stack pointer up. `specs/Frames.antt` has the layout.
 #![tactic(auto)]
+
+pub mod layout;
+
+pub use layout::{FrameLayout, frame};

@@ -1,2 +1,7 @@
 pub mod Templates
+pub mod Operations
+pub mod Assembly
 pub mod Code
+pub mod Versioned
+pub mod Selected
+pub mod Placed

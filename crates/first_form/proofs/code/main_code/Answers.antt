@@ -1,7 +1,7 @@
 use Rattle.std.proofs.Common.{◌≡◌, ◌+◌, ◌*◌, ◌<◌, ◌≤◌, ◌++◌, length, take, get_or, vec_len, sym, ap, ◌∙◌, arith}
 use Rattle.std.proofs.lemmas.List.{append-nil, take_more, take_all}
 use Rattle.std.proofs.lemmas.Int.{to_z-of_z}
-use Rattle.rv64_select.specs.Code.{enter_code}
+use Rattle.rv64_select.specs.Assembly.{enter_code}
 use Rattle.final_link.specs.Stubs.{functions_address}
 use Rattle.final_link.specs.Image.{code_bytes}
 use Rattle.first_form.specs.declared.form.Literal.TheVariants.{Plain}

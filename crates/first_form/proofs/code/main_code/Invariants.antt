@@ -1,5 +1,5 @@
 use Rattle.std.proofs.Common.{◌≡◌, ◌+◌, ◌*◌, ◌≤◌, ◌++◌, length, take, vec_len}
-use Rattle.rv64_select.specs.Code.{enter_code}
+use Rattle.rv64_select.specs.Assembly.{enter_code}
 use Rattle.final_link.specs.Stubs.{functions_address}
 use Rattle.final_link.specs.Image.{code_bytes}
 use Rattle.first_form.proofs.TemplateLaws.{puts_code}

@@ -1,0 +1,8 @@
+pub mod Laying
+pub mod Bounds
+pub mod Encodes
+pub mod Fits
+pub mod Naming
+pub mod Parts
+pub mod Whole
+pub mod TestedFunction

@@ -1,0 +1,52 @@
+//! The code of a function in an object.
+ghost use Rattle.std.specs.Prelude.{◌≡◌, ◌*◌, ◌≤◌, length, IfOk};
+ghost use Rattle.rv64_frame.specs.Frames.{frame_of};
+ghost use Rattle.rv64_select.specs.Selected.{words_of_code, names_of_code, relocations_of_code};
+ghost use Rattle.rv64_select.specs.Versioned.{IsVersioned, bound_of};
+
+use crate::labels::label_offsets;
+use crate::names::named;
+use crate::references::references_of;
+use crate::steps::assembly;
+use crate::words::words_of;
+use elf_container::Reloc;
+use gimple_ir::{List, Name, NoMemory, VersionedFunction};
+use rv64_frame::FrameLayout;
+use std::alloc::Global;
+
+/// The code of a function. The fields that relocations fill are 0 in its words; a relocation's symbol is a place in `names`.
+#[derive(Debug, Drop)]
+pub struct FunctionCode {
+    pub words: List<u32>,
+    /// By ascending offsets from the function's first byte.
+    pub relocations: List<Reloc>,
+    /// In the order of their first relocation.
+    pub names: List<Name>,
+}
+
+/// The code of a version with its frame. It takes time and memory in proportion to its words, but for the names, which are found in
+/// a map.
+pub fn code(
+    alloc: Global,
+    function: &VersionedFunction,
+    layout: &FrameLayout,
+) -> Result<FunctionCode, NoMemory>
+    // its numbers name what is there, its frame has few slots, and its code bound is in the limit
+    requires versioned { IsVersioned function.now }
+    requires layout { layout.now ≡ frame_of function.now }
+    ensures words { IfOk result (λ code. code.words ≡ words_of_code function.now) }
+    ensures relocations { IfOk result (λ code. code.relocations ≡ relocations_of_code function.now) }
+    ensures names { IfOk result (λ code. code.names ≡ names_of_code function.now) }
+    ensures bound { IfOk result (λ code. 4 * length code.words ≤ bound_of function.now) }
+{
+    let items = assembly(alloc, function, layout)?;
+    let offsets = label_offsets(alloc, function.labels, &items)?;
+    let words = words_of(alloc, &offsets, &items)?;
+    let references = references_of(alloc, &items)?;
+    let named = named(alloc, function, &references)?;
+    Ok(FunctionCode {
+        words: List::from_vec(words),
+        relocations: named.relocations,
+        names: named.names,
+    })
+}

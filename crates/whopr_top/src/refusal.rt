@@ -1,14 +1,13 @@
 // Why a command was refused: its status and its line.
 ghost use Rattle.std.specs.Prelude.{◌≡◌, IfOk, string_bytes};
-ghost use Rattle.whopr_top.specs.Judgements.{check_word, kind_word, text_line};
 ghost use Rattle.whopr_top.specs.Refusal.{status_of, refusal_line};
 
-use gimple_ir::TypeKind;
+use crate::lines::text_line;
 use gimple_syntax::TextKind;
 use std::alloc::{AllocError, Global};
 
 /// Why a command was refused. One variant a status.
-#[derive(Clone, Copy, Debug)]
+#[derive(Debug, Drop)]
 pub enum Refusal<'a> {
     /// 2: the words are no command.
     NoCommand,
@@ -30,8 +29,8 @@ pub enum Refusal<'a> {
 
 impl Refusal<'_> {
     /// The status that the command answers.
-    pub fn status(self) -> u8
-        ensures { result ≡ status_of self.entry }
+    pub fn status(&self) -> u8
+        ensures { result ≡ status_of self.now }
     {
         match self {
             Refusal::NoCommand => 2,
@@ -44,42 +43,6 @@ impl Refusal<'_> {
             Refusal::Unbuilt => 13,
         }
     }
-}
-
-fn check_word(kind: TypeKind) -> &'static str
-    ensures { result.now ≡ check_word kind }
-{
-    match kind {
-        TypeKind::DoubleName => "DoubleName",
-        TypeKind::UnknownName => "UnknownName",
-        TypeKind::TooMany => "TooMany",
-        TypeKind::BadLabel => "BadLabel",
-        TypeKind::OpenEnd => "OpenEnd",
-        TypeKind::WrongCount => "WrongCount",
-        TypeKind::WrongType => "WrongType",
-        TypeKind::NegLiteral => "NegLiteral",
-        TypeKind::BadCase => "BadCase",
-    }
-}
-
-fn kind_word(kind: TextKind) -> &'static str
-    ensures { result.now ≡ kind_word kind }
-{
-    match kind {
-        TextKind::Byte => "Byte",
-        TextKind::Syntax => "Syntax",
-        TextKind::Literal => "Literal",
-        TextKind::Check(kind) => check_word(kind),
-    }
-}
-
-fn text_line(alloc: Global, line: u32, kind: TextKind) -> Result<String, AllocError>
-    ensures { IfOk result (λ found. string_bytes found ≡ text_line line kind) }
-{
-    let mut text = format!(in alloc; "9 text {line} ")?;
-    text.push_str(kind_word(kind))?;
-    text.push_str("\n")?;
-    Ok(text)
 }
 
 /// The line of a refusal.

@@ -1,4 +1,5 @@
-// The rows of `cc` and `run` over files in memory, the image of `cc` word for word, its limits, and what is put piece by piece.
+// The rows of each command over files in memory, the image of `cc` word for word, limits, and what is put piece by
+// piece.
 ghost use Rattle.std.specs.Prelude.{OnOk, IsErrOf, None, Some, map};
 ghost use Rattle.outer_files.specs.Outside.{TookPiece, FailedPiece, LackedMemory};
 
@@ -185,7 +186,7 @@ fn limits(rt: HostRuntime) -> Result<(), Fail> {
     Ok(())
 }
 
-// How the image of the first row is changed before it is run.
+// How a file is changed before it is read.
 #[derive(Clone, Copy)]
 enum Change {
     Nothing,
@@ -194,8 +195,8 @@ enum Change {
     CutTo(usize),
 }
 
-fn changed(alloc: Global, image: &[u8], change: Change) -> Result<Vec<u8>, AllocError> {
-    let mut bytes = Vec::from_slice(alloc, image)?;
+fn changed(alloc: Global, file: &[u8], change: Change) -> Result<Vec<u8>, AllocError> {
+    let mut bytes = Vec::from_slice(alloc, file)?;
     match change {
         Change::Nothing => {}
         Change::Byte(offset, byte) => {

@@ -8,7 +8,6 @@ ghost use Rattle.whopr_top.specs.Outputs.{Done, Faithful, CutShort, Refused, IsV
 ghost use Rattle.whopr_top.specs.Answers.{Exactly, is_status, is_early, lines_of, IsQuiet, PutsLine};
 
 use crate::attempt::attempt;
-use crate::printed::Printed;
 use crate::report::{report, tell};
 use outer_files::{FileStore, Sink};
 use std::alloc::Global;
@@ -59,7 +58,7 @@ pub fn plain<F: FileStore, K: Sink>(
     // An image that was compiled can be loaded and does, on every input, what the program of its text does.
     ensures follows { result ≡ 0 → WhereTold (F.held files.old) (F.held files.new) (Faithful (command_of (words_of words.now))) }
 
-    // What the files hold then. Where the sink fails at the text of a command that was done, its file is written.
+    // What the files hold then. Where the sink fails at the text of a command that was done, its files are written.
     ensures done { result ≡ 0 → WhereTold (F.held files.old) (F.held files.new) (Done FILE_BYTES (command_of (words_of words.now))) }
     ensures cut_short { result ≡ 6 → WhereTold (F.held files.old) (F.held files.new) (CutShort FILE_BYTES (command_of (words_of words.now)))
         ⊎ (Rose (K.known out.old).faults (K.known out.new).faults × ¬ IsQuiet (command_of (words_of words.now)) × WhereTold (F.held files.old) (F.held files.new) (Done FILE_BYTES (command_of (words_of words.now)))) }
@@ -67,13 +66,12 @@ pub fn plain<F: FileStore, K: Sink>(
     ensures memory { result ≡ 7 → (F.held files.new ≡ F.held files.old) ⊎ WhereTold (F.held files.old) (F.held files.new) (CutShort FILE_BYTES (command_of (words_of words.now)))
         ⊎ WhereTold (F.held files.old) (F.held files.new) (Done FILE_BYTES (command_of (words_of words.now))) }
 
-    // What was put: all that a command prints in one put, and nothing by a command that is quiet.
+    // What was put: all that a command prints in one put, and nothing where that is nothing.
     ensures quiet { result ≡ 0 → IsQuiet (command_of (words_of words.now)) → out.new ≡ out.old }
     ensures printed { PutsLine FILE_BYTES (F.held files.old) (command_of (words_of words.now)) result (K.known out.old) (K.known out.new) }
 {
     match attempt(alloc, words, files) {
-        Ok(Printed::Nothing) => 0,
-        Ok(Printed::Stood(state)) => tell(alloc, state, out),
+        Ok(text) => tell(&text, out),
         Err(refusal) => report(alloc, refusal, out),
     }
 }
@@ -105,7 +103,7 @@ pub fn whopr<F: FileStore, K: Sink>(
     // An image that was compiled can be loaded and does, on every input, what the program of its text does.
     ensures follows { result ≡ 0 → WhereTold (F.held files.old) (F.held files.new) (Faithful (command_of (words_of words.now))) }
 
-    // What the files hold then. Where the sink fails at the text of a command that was done, its file is written.
+    // What the files hold then. Where the sink fails at the text of a command that was done, its files are written.
     ensures done { result ≡ 0 → WhereTold (F.held files.old) (F.held files.new) (Done FILE_BYTES (command_of (words_of words.now))) }
     ensures cut_short { result ≡ 6 → WhereTold (F.held files.old) (F.held files.new) (CutShort FILE_BYTES (command_of (words_of words.now)))
         ⊎ (Rose (K.known out.old).faults (K.known out.new).faults × ¬ IsQuiet (command_of (words_of words.now)) × WhereTold (F.held files.old) (F.held files.new) (Done FILE_BYTES (command_of (words_of words.now)))) }
@@ -113,7 +111,7 @@ pub fn whopr<F: FileStore, K: Sink>(
     ensures memory { result ≡ 7 → (F.held files.new ≡ F.held files.old) ⊎ WhereTold (F.held files.old) (F.held files.new) (CutShort FILE_BYTES (command_of (words_of words.now)))
         ⊎ WhereTold (F.held files.old) (F.held files.new) (Done FILE_BYTES (command_of (words_of words.now))) }
 
-    // What was put: all that a command prints in one put, and nothing by a command that is quiet.
+    // What was put: all that a command prints in one put, and nothing where that is nothing.
     ensures quiet { result ≡ 0 → IsQuiet (command_of (words_of words.now)) → out.new ≡ out.old }
     ensures printed { PutsLine FILE_BYTES (F.held files.old) (command_of (words_of words.now)) result (K.known out.old) (K.known out.new) }
 {

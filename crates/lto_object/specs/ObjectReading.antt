@@ -23,12 +23,13 @@ use Rattle.lto_object.specs.declared.fault.ObjectError.{ObjectError}
 use Rattle.lto_object.specs.declared.fault.ObjectError.TheVariants as errors
 use Rattle.lto_object.specs.declared.symbol.Symbol.{Symbol}
 use Rattle.lto_object.specs.declared.symbols.StoredSymbol.{StoredSymbol}
-use Rattle.lto_object.specs.Objects.{is_defined, symbols_of, stored_symbol, ObjectData}
+use Rattle.lto_object.specs.Bounds.{is_defined}
+use Rattle.lto_object.specs.Objects.{symbols_of, ObjectData}
 use Rattle.lto_object.specs.Forms.{sections_fault}
 use Rattle.lto_object.specs.Sameness.{same_summary, same_symbol}
 use Rattle.lto_object.specs.BodyStream.{read_bodies}
 use Rattle.lto_object.specs.SummaryStream.{read_summaries}
-use Rattle.lto_object.specs.SymbolStream.{read_symbols}
+use Rattle.lto_object.specs.SymbolStream.{stored_of, read_symbols}
 
 -- ---- steps
 
@@ -124,7 +125,7 @@ abbrev pub differs_from : ℕ → List StoredSymbol → List Symbol → Option �
 differs_from place [] [] = None
 differs_from place [] (s ∷ ss) = Some place
 differs_from place (t ∷ stored) [] = Some place
-differs_from place (t ∷ stored) (s ∷ ss) = if same_symbol t (stored_symbol s) then differs_from (place + 1) stored ss else Some place
+differs_from place (t ∷ stored) (s ∷ ss) = if same_symbol t (stored_of s) then differs_from (place + 1) stored ss else Some place
 
 abbrev pub symbols_fault : Module → List StoredSymbol → Option ObjectFault
 symbols_fault m stored = option_map (λ place. SymbolsDiffer place) (differs_from 0 stored (symbols_of m))

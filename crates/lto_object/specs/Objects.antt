@@ -1,7 +1,7 @@
 -- The one object of a checked module: a file of five sections, which hold the format's version, the declarations, the bodies, the
 -- true summaries, and the symbols.
-use Rattle.std.specs.Prelude.{◌≡◌, ℕ, List, [], ◌∷◌, ◌++◌, map, Bool, true, false, not, nat_eq, Option, Some, None, slice_get, IsSomeAnd, codes, if◌then◌else◌}
-use Rattle.std.specs.List.{filter, filter_map, flat_map, list_any, enumerate_from}
+use Rattle.std.specs.Prelude.{◌≡◌, ℕ, List, [], ◌∷◌, ◌++◌, map, Bool, true, false, nat_eq, Option, Some, None, slice_get, IsSomeAnd, codes, if◌then◌else◌}
+use Rattle.std.specs.List.{filter_map, flat_map, list_any, enumerate_from}
 use Rattle.gimple_ir.specs.declared.types.Linkage.{Linkage}
 use Rattle.gimple_ir.specs.declared.types.Linkage.TheVariants.{Extern, Strong, Weak, Static}
 use Rattle.gimple_ir.specs.declared.types.Array.{Array}
@@ -10,7 +10,6 @@ use Rattle.gimple_ir.specs.declared.types.Module.{Module}
 use Rattle.gimple_ir.specs.declared.types.Statement.{Statement}
 use Rattle.gimple_ir.specs.declared.types.Statement.TheVariants.{Call}
 use Rattle.gimple_ir.specs.declared.summary.Summary.{Summary}
-use Rattle.gimple_ir.specs.Checks.{is_extern}
 use Rattle.gimple_ir.specs.Programs.{IsChecked}
 use Rattle.elf_container.specs.declared.format.TheConstants.{SHT_PROGBITS}
 use Rattle.elf_container.specs.declared.sections.OwnSection.{OwnSection}
@@ -20,30 +19,18 @@ use Rattle.module_stream.specs.Bodies.{body_of}
 use Rattle.module_stream.specs.Declarations.{decls_of}
 use Rattle.lto_object.specs.declared.sections.TheConstants.{SHF_EXCLUDE}
 use Rattle.lto_object.specs.declared.symbol.Symbol.{Symbol}
-use Rattle.lto_object.specs.declared.symbols.StoredSymbol.{StoredSymbol}
-use Rattle.lto_object.specs.BodyStream.{bodies_bytes}
+use Rattle.lto_object.specs.Bounds.{is_defined, defined_of}
+use Rattle.lto_object.specs.BodyStream.{bodies_of, bodies_bytes}
 use Rattle.lto_object.specs.SummaryStream.{summaries_bytes}
-use Rattle.lto_object.specs.SymbolStream.{symbols_bytes}
-
--- ---- the functions that have a body
-
-abbrev pub is_defined : Function → Bool
-is_defined f = not (is_extern f.linkage)
-
--- in order
-abbrev pub definitions : Module → List Function
-definitions m = filter is_defined m.functions
+use Rattle.lto_object.specs.SymbolStream.{stored_of, symbols_bytes}
 
 -- the number is that of a function with a body
 abbrev pub IsDefinition : Module → ℕ → Type 0
 IsDefinition m place = IsSomeAnd (slice_get m.functions place) (λ f. is_defined f ≡ true)
 
-abbrev pub bodies_of : Module → List (List Statement)
-bodies_of m = map (λ f. f.body) (definitions m)
-
--- the true summaries
+-- the true summaries, of the functions that have a body, in order
 abbrev pub summaries_of : Module → List Summary
-summaries_of m = map (summary_of m) (definitions m)
+summaries_of m = map (summary_of m) (defined_of m.functions)
 
 -- ---- symbols
 
@@ -83,10 +70,6 @@ symbols_of m =
     filter_map (λ pair. array_symbol m pair.0 pair.1) (enumerate_from 0 m.arrays)
     ++ filter_map (λ pair. function_symbol m pair.0 pair.1) (enumerate_from 0 m.functions)
 
--- what an object stores of a symbol: not its place
-abbrev pub stored_symbol : Symbol → StoredSymbol
-stored_symbol s = record { function = s.function; linkage = s.linkage; name = s.name }
-
 -- ---- the file
 
 abbrev pub section_of : List ℕ → List ℕ → OwnSection
@@ -100,7 +83,7 @@ sections_with version decls bodies summaries symbols =
 
 unfoldable pub sections_of : Module → List OwnSection
 sections_of m =
-    sections_with (1 ∷ []) (decls_of m) (bodies_bytes (bodies_of m)) (summaries_bytes (summaries_of m)) (symbols_bytes (map stored_symbol (symbols_of m)))
+    sections_with (1 ∷ []) (decls_of m) (bodies_bytes (bodies_of m.functions)) (summaries_bytes (summaries_of m)) (symbols_bytes (map stored_of (symbols_of m)))
 
 unfoldable pub object_of : Module → List ℕ
 object_of m = layout_of (sections_of m)
@@ -119,4 +102,4 @@ pub record IsObject (o : ObjectData) : Type 0 where
   pub checked : IsChecked o.source
   pub summaries : o.summaries ≡ summaries_of o.source
   pub symbols : o.symbols ≡ symbols_of o.source
-  pub bodies : o.bodies ≡ map body_of (bodies_of o.source)
+  pub bodies : o.bodies ≡ map body_of (bodies_of o.source.functions)

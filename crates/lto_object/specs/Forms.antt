@@ -4,12 +4,12 @@ use Rattle.std.specs.Prelude.{◌≡◌, ℕ, ◌+◌, List, [], ◌∷◌, ◌+
 use Rattle.std.specs.List.{list_all}
 use Rattle.std.specs.Str.{bytes_eq}
 use Rattle.gimple_ir.specs.Names.{is_among}
-use Rattle.elf_container.specs.declared.format.TheConstants.{SHT_PROGBITS}
 use Rattle.elf_container.specs.declared.sections.OwnSection.{OwnSection}
 use Rattle.elf_container.specs.Layout.{shstrtab_name}
 use Rattle.elf_container.specs.Offsets.{offset_of, table_of, header_of}
 use Rattle.elf_container.specs.ObjectReading.{part}
-use Rattle.lto_object.specs.declared.sections.TheConstants.{SHF_EXCLUDE}
+use Rattle.lto_object.specs.Objects.{sections_with}
+use Rattle.lto_object.specs.declared.sections.TheConstants.{SHT_PROGBITS, SHF_EXCLUDE}
 use Rattle.lto_object.specs.declared.fault.ObjectFault.{ObjectFault}
 use Rattle.lto_object.specs.declared.fault.ObjectFault.TheVariants.{MissingSection, DoubleSection, BadVersion, BadLayout}
 
@@ -59,3 +59,7 @@ first (Some fault) more = Some fault
 -- in this order
 unfoldable pub sections_fault : List OwnSection → Option ObjectFault
 sections_fault ss = first (double_section ss) (first (missing_section ss) (first (misplaced_section ss) (wrong_version ss)))
+
+-- the sections are those of an object
+abbrev pub IsForm : List OwnSection → Type 0
+IsForm ss = ss ≡ sections_with (1 ∷ []) (part 1 ss) (part 2 ss) (part 3 ss) (part 4 ss)

@@ -6,3 +6,4 @@ pub mod SymbolStream
 pub mod Objects
 pub mod Forms
 pub mod ObjectReading
+pub mod Streamed

@@ -1,13 +1,12 @@
 -- Reading an object, up to the first fault: of the file, of its sections, of the four streams in order, of the module by its checks,
 -- of the summaries, and of the symbols.
-use Rattle.std.specs.Prelude.{◌≡◌, ℕ, ◌+◌, List, [], ◌∷◌, drop, Bool, not, ◌&&◌, Option, Some, None, option_map, unwrap_or, slice_get, Result, Ok, Err, if◌then◌else◌}
-use Rattle.std.specs.List.{enumerate_from}
+use Rattle.std.specs.Prelude.{◌≡◌, ℕ, ◌+◌, List, [], ◌∷◌, drop, Bool, ◌&&◌, ◌==◌, Option, Some, None, option_map, unwrap_or, slice_get, Result, Ok, Err, if◌then◌else◌}
 use Rattle.std.specs.Str.{bytes_eq}
 use Rattle.gimple_ir.specs.declared.types.Function.{Function}
 use Rattle.gimple_ir.specs.declared.types.Module.{Module}
 use Rattle.gimple_ir.specs.declared.types.Statement.{Statement}
 use Rattle.gimple_ir.specs.declared.summary.Summary.{Summary}
-use Rattle.gimple_ir.specs.Checks.{is_extern, fault_of}
+use Rattle.gimple_ir.specs.Checks.{fault_of}
 use Rattle.elf_container.specs.declared.fault.ElfKind.TheVariants as elf
 use Rattle.elf_container.specs.declared.fault.ElfKind.{ElfKind}
 use Rattle.elf_container.specs.declared.fault.ElfFault.{ElfFault}
@@ -16,6 +15,7 @@ use Rattle.elf_container.specs.Offsets.{offset_of}
 use Rattle.elf_container.specs.Reading.{read_of as read_sections}
 use Rattle.elf_container.specs.ObjectReading.{part}
 use Rattle.func_summary.specs.Summaries.{summary_of}
+use Rattle.module_stream.specs.Codes.{flag_code, linkage_code}
 use Rattle.module_stream.specs.DeclarationReading.{read_decls}
 use Rattle.lto_object.specs.declared.fault.ObjectFault.{ObjectFault}
 use Rattle.lto_object.specs.declared.fault.ObjectFault.TheVariants.{NotElf, WrongClass, WrongMachine, Truncated, Compressed, BadStream, Trailing, TypeFault, SummaryDiffers, SymbolsDiffer, BadLayout}
@@ -26,9 +26,8 @@ use Rattle.lto_object.specs.declared.symbols.StoredSymbol.{StoredSymbol}
 use Rattle.lto_object.specs.Bounds.{is_defined}
 use Rattle.lto_object.specs.Objects.{symbols_of, ObjectData}
 use Rattle.lto_object.specs.Forms.{sections_fault}
-use Rattle.lto_object.specs.Sameness.{same_summary, same_symbol}
 use Rattle.lto_object.specs.BodyStream.{read_bodies}
-use Rattle.lto_object.specs.SummaryStream.{read_summaries}
+use Rattle.lto_object.specs.SummaryStream.{summary_bytes, read_summaries}
 use Rattle.lto_object.specs.SymbolStream.{stored_of, read_symbols}
 
 -- ---- steps
@@ -79,7 +78,8 @@ with_body f body = record { name = f.name; linkage = f.linkage; result = f.resul
 abbrev pub filled : List Function → List (List Statement) → List Function
 filled [] bodies = []
 filled (f ∷ fs) bodies =
-    if is_defined f then with_body f (unwrap_or (slice_get bodies 0) []) ∷ filled fs (drop 1 bodies) else f ∷ filled fs bodies
+    if is_defined f then with_body f (unwrap_or (slice_get bodies 0) []) ∷ filled fs (drop 1 bodies)
+    else with_body f [] ∷ filled fs bodies
 
 abbrev pub with_bodies : Module → List (List Statement) → Module
 with_bodies m bodies = record { structs = m.structs; arrays = m.arrays; functions = filled m.functions bodies }
@@ -100,6 +100,10 @@ read_streams ss =
 abbrev pub type_fault : Module → Option ObjectFault
 type_fault m = option_map (λ fault. TypeFault fault) (fault_of m)
 
+-- two summaries are the same where they are spelled alike
+abbrev pub same_summary : Summary → Summary → Bool
+same_summary s t = bytes_eq (summary_bytes s) (summary_bytes t)
+
 -- the stored summary is not the true one
 abbrev pub summary_fault : Module → ℕ → Function → Summary → Option ObjectFault
 summary_fault m place f stored =
@@ -119,6 +123,9 @@ summaries_fault_from m place (f ∷ fs) (s ∷ stored) =
 
 abbrev pub summaries_fault : Module → List Summary → Option ObjectFault
 summaries_fault m stored = summaries_fault_from m 0 m.functions stored
+
+abbrev pub same_symbol : StoredSymbol → StoredSymbol → Bool
+same_symbol s t = flag_code s.function == flag_code t.function && linkage_code s.linkage == linkage_code t.linkage && bytes_eq s.name t.name
 
 -- the first place, of which the first is given, where the stored symbols are not those of the module
 abbrev pub differs_from : ℕ → List StoredSymbol → List Symbol → Option ℕ

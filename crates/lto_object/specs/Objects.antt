@@ -1,7 +1,7 @@
 -- The one object of a checked module: a file of five sections, which hold the format's version, the declarations, the bodies, the
 -- true summaries, and the symbols.
-use Rattle.std.specs.Prelude.{◌≡◌, ℕ, List, [], ◌∷◌, ◌++◌, map, Bool, true, false, nat_eq, Option, Some, None, slice_get, IsSomeAnd, codes, if◌then◌else◌}
-use Rattle.std.specs.List.{filter_map, flat_map, list_any, enumerate_from}
+use Rattle.std.specs.Prelude.{◌≡◌, ℕ, List, [], ◌∷◌, ◌++◌, length, map, take, Bool, true, false, nat_eq, Option, Some, None, slice_get, IsSomeAnd, codes, if◌then◌else◌}
+use Rattle.std.specs.List.{filter_map, flat_map, list_any, enumerate_from, range_with_len}
 use Rattle.gimple_ir.specs.declared.types.Linkage.{Linkage}
 use Rattle.gimple_ir.specs.declared.types.Linkage.TheVariants.{Extern, Strong, Weak, Static}
 use Rattle.gimple_ir.specs.declared.types.Array.{Array}
@@ -11,13 +11,12 @@ use Rattle.gimple_ir.specs.declared.types.Statement.{Statement}
 use Rattle.gimple_ir.specs.declared.types.Statement.TheVariants.{Call}
 use Rattle.gimple_ir.specs.declared.summary.Summary.{Summary}
 use Rattle.gimple_ir.specs.Programs.{IsChecked}
-use Rattle.elf_container.specs.declared.format.TheConstants.{SHT_PROGBITS}
 use Rattle.elf_container.specs.declared.sections.OwnSection.{OwnSection}
 use Rattle.elf_container.specs.Layout.{layout_of}
 use Rattle.func_summary.specs.Summaries.{summary_of, arrays_in}
 use Rattle.module_stream.specs.Bodies.{body_of}
 use Rattle.module_stream.specs.Declarations.{decls_of}
-use Rattle.lto_object.specs.declared.sections.TheConstants.{SHF_EXCLUDE}
+use Rattle.lto_object.specs.declared.sections.TheConstants.{SHT_PROGBITS, SHF_EXCLUDE}
 use Rattle.lto_object.specs.declared.symbol.Symbol.{Symbol}
 use Rattle.lto_object.specs.Bounds.{is_defined, defined_of}
 use Rattle.lto_object.specs.BodyStream.{bodies_of, bodies_bytes}
@@ -34,20 +33,17 @@ summaries_of m = map (summary_of m) (defined_of m.functions)
 
 -- ---- symbols
 
-abbrev pub statements_of : Module → List Statement
-statements_of m = flat_map (λ f. f.body) m.functions
-
 abbrev pub functions_in : Statement → List ℕ
 functions_in (Call to f args) = f ∷ []
 functions_in _ = []
 
--- some statement names the array
-abbrev pub names_array : Module → ℕ → Bool
-names_array m place = list_any (nat_eq place) (flat_map arrays_in (statements_of m))
+-- the arrays that statements name, as often as they do
+abbrev pub named_arrays : List Function → List ℕ
+named_arrays functions = flat_map (λ f. flat_map arrays_in f.body) functions
 
--- some statement names the function
-abbrev pub names_function : Module → ℕ → Bool
-names_function m place = list_any (nat_eq place) (flat_map functions_in (statements_of m))
+-- the functions that statements name, as often as they do
+abbrev pub named_functions : List Function → List ℕ
+named_functions functions = flat_map (λ f. flat_map functions_in f.body) functions
 
 -- a definition is listed unless it is static, a declaration where a statement names it
 abbrev pub is_listed : Linkage → Bool → Bool
@@ -56,19 +52,25 @@ is_listed Strong named = true
 is_listed Weak named = true
 is_listed Static named = false
 
-abbrev pub array_symbol : Module → ℕ → Array → Option Symbol
-array_symbol m place a =
-    if is_listed a.linkage (names_array m place) then Some (record { name = a.name; function = false; linkage = a.linkage; place = place }) else None
+abbrev pub array_symbol : List ℕ → ℕ → Array → Option Symbol
+array_symbol named place a =
+    if is_listed a.linkage (list_any (nat_eq place) named)
+    then Some (record { name = a.name; function = false; linkage = a.linkage; place = place }) else None
 
-abbrev pub function_symbol : Module → ℕ → Function → Option Symbol
-function_symbol m place f =
-    if is_listed f.linkage (names_function m place) then Some (record { name = f.name; function = true; linkage = f.linkage; place = place }) else None
+abbrev pub function_symbol : List ℕ → ℕ → Function → Option Symbol
+function_symbol named place f =
+    if is_listed f.linkage (list_any (nat_eq place) named)
+    then Some (record { name = f.name; function = true; linkage = f.linkage; place = place }) else None
+
+abbrev pub array_symbols : List ℕ → List Array → List Symbol
+array_symbols named arrays = filter_map (λ pair. array_symbol named pair.0 pair.1) (enumerate_from 0 arrays)
+
+abbrev pub function_symbols : List ℕ → List Function → List Symbol
+function_symbols named functions = filter_map (λ pair. function_symbol named pair.0 pair.1) (enumerate_from 0 functions)
 
 -- of the arrays and then of the functions, in order
 abbrev pub symbols_of : Module → List Symbol
-symbols_of m =
-    filter_map (λ pair. array_symbol m pair.0 pair.1) (enumerate_from 0 m.arrays)
-    ++ filter_map (λ pair. function_symbol m pair.0 pair.1) (enumerate_from 0 m.functions)
+symbols_of m = array_symbols (named_arrays m.functions) m.arrays ++ function_symbols (named_functions m.functions) m.functions
 
 -- ---- the file
 
@@ -96,6 +98,10 @@ pub record ObjectData : Type 0 where
   pub symbols : List Symbol
   -- the bytes of the bodies of the functions that have one
   pub bodies : List (List ℕ)
+
+-- for each function how many functions with a body stand before it
+abbrev pub ranks_of : List Function → List ℕ
+ranks_of functions = map (λ place. length (defined_of (take place functions))) (range_with_len 0 (length functions))
 
 -- the module is checked, and all else is that of the module
 pub record IsObject (o : ObjectData) : Type 0 where

@@ -34,6 +34,13 @@ impl<'a> Model for StoredBody<'a> {
 }
 
 impl<'a> StoredBody<'a> {
+    /// The bytes that spell it.
+    pub fn bytes(&self) -> &'a [u8]
+        ensures { result.now ≡ body_of self.now }
+    {
+        self.bytes
+    }
+
     /// The bytes that spell it, and its statements.
     pub fn into_parts(self) -> (&'a [u8], List<Statement>)
         ensures bytes { result.0.now ≡ body_of self.entry }

@@ -153,7 +153,7 @@ pub fn part<'a>(view: &RelView<'a>, place: usize) -> &'a [u8]
 fn wrong_version(view: &RelView) -> Option<ObjectFault>
     ensures { result ≡ wrong_version view.now }
 {
-    if part(view, 0) == &[1] {
+    if part(view, 0) == [1].as_slice() {
         return None;
     }
     Some(ObjectFault::BadVersion {

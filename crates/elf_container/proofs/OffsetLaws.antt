@@ -1,9 +1,9 @@
 -- The sections of a laid out file stand where their list says.
-use Rattle.std.proofs.Common.{◌≡◌, ℕ, zero, suc, ◌+◌, ◌*◌, ◌^◌, ◌<◌, ◌≤◌, List, [], ◌∷◌, ◌++◌, length, take, drop, Some, refl, sym, ap, subst, ◌∙◌, append_assoc, length-append, arith}
-use Rattle.std.specs.Prelude.{slice_get, sum_by}
+use Rattle.std.proofs.Common.{◌≡◌, ℕ, zero, suc, ◌+◌, ◌*◌, ◌^◌, ◌<◌, ◌≤◌, List, [], ◌∷◌, ◌++◌, length, take, drop, get_or, Some, refl, sym, ap, subst, ◌∙◌, append_assoc, length-append, arith}
+use Rattle.std.specs.Prelude.{slice_get, sum_by, map}
 use Rattle.std.specs.List.{fold, AllByRecursion}
-use Rattle.std.proofs.lemmas.List.{take_all, take_at, length-take}
-use Rattle.std.proofs.lemmas.List.Sums.{fold-append, sum_by-cons}
+use Rattle.std.proofs.lemmas.List.{take_all, take_at, take-map, length-take}
+use Rattle.std.proofs.lemmas.List.Sums.{fold-append, sum_by-cons, sum_by-append}
 use Rattle.std.proofs.lemmas.List.Elements.{recursion_from_All}
 use Rattle.elf_container.specs.declared.headers.Header.{Header}
 use Rattle.elf_container.specs.declared.sections.OwnSection.{OwnSection}
@@ -12,6 +12,7 @@ use Rattle.elf_container.specs.Offsets.{aligned, end_after, end_of, offset_of, n
 use Rattle.elf_container.specs.Container.{IsSection, IsContainer}
 use Rattle.elf_container.specs.Reading.{shoff, header_at}
 use Rattle.elf_container.proofs.FileLaws.{table_is}
+use Rattle.elf_container.proofs.Laying.{next}
 use Rattle.elf_container.proofs.Places.{Begins, begins_through, at_front, Grows, grows, zeros_len, padded_begins, padded_len, tables_len, Holds, header_found}
 use Rattle.elf_container.proofs.ReadAgain.{names_before, with_names, parts_are, room, all_push, is_section, layout_is, behind_header, table_size, size_is, holds, has_header}
 
@@ -129,17 +130,61 @@ header_told ss place s is h here =
     omega (arith, table_at ss, tables_len (take place ss) start, zeros_len 64, length-take place ss, place_inside ss place s here) in
     ap (λ n. (header_at n (layout_of ss)).offset) at ∙ ap (λ (k : Header). k.offset) found ∙ offset_is (take place ss)
 
--- ---- in a loop over sections
+-- ---- numbers that fit
 
 end_grows : (ss : List OwnSection) (n m : ℕ) → n ≤ m → n ≤ fold end_after m ss
 end_grows [] n m h = h
 end_grows (s ∷ ss) n m h = end_grows ss n (end_after m s) (omega (arith, h))
 
-pub end_within : (ss : List OwnSection) (k : ℕ) → end_of (take k ss) ≤ end_of ss
-end_within ss k = within ss k 64
-  where
-    within : (ts : List OwnSection) (j n : ℕ) → fold end_after n (take j ts) ≤ fold end_after n ts
-    within [] zero n = omega arith
-    within [] (suc j) n = omega arith
-    within (t ∷ ts) zero n = end_grows (t ∷ ts) n n (omega arith)
-    within (t ∷ ts) (suc j) n = within ts j (end_after n t)
+end_within : (ss : List OwnSection) (k n : ℕ) → fold end_after n (take k ss) ≤ fold end_after n ss
+end_within [] zero n = omega arith
+end_within [] (suc k) n = omega arith
+end_within (s ∷ ss) zero n = end_grows (s ∷ ss) n n (omega arith)
+end_within (s ∷ ss) (suc k) n = end_within ss k (end_after n s)
+
+aligned_le : (a b : ℕ) → a ≤ b → aligned a ≤ aligned b
+aligned_le a b h = omega arith
+
+pub offset_fits : (ss : List OwnSection) (k : ℕ) → size_of ss < 2 ^ 64 → aligned (end_of (take k ss)) < 2 ^ 64
+offset_fits ss k h =
+    let whole = aligned_le (end_of (take k ss)) (end_of ss) (end_within ss k 64) in
+    omega (arith, whole, last_offset ss, h)
+
+pub front_fits : {X : Type 0} (view : X → OwnSection) (xs : List X) (k : ℕ) → size_of (map view xs) < 2 ^ 64 → aligned (end_of (map view (take k xs))) < 2 ^ 64
+front_fits view xs k h = subst (λ (ss : List OwnSection). aligned (end_of ss) < 2 ^ 64) (take-map view k xs) (offset_fits (map view xs) k h)
+
+-- one more section of a list that is gone over
+
+sections_next : {X : Type 0} (view : X → OwnSection) (xs : List X) (i : ℕ) (x : X) → i < length xs → x ≡ get_or xs i x → take (i + 1) (map view xs) ≡ map view (take i xs) ++ view x ∷ []
+sections_next view xs i x lt is = take-map view (i + 1) xs ∙ next view xs i x lt is
+
+end_pushed : (ss : List OwnSection) (s : OwnSection) → end_of (ss ++ s ∷ []) ≡ end_after (end_of ss) s
+end_pushed ss s = fold-append end_after 64 ss (s ∷ [])
+
+pub end_next : {X : Type 0} (view : X → OwnSection) (xs : List X) (i : ℕ) (x : X) → i < length xs → x ≡ get_or xs i x
+    → end_of (map view (take (i + 1) xs)) ≡ end_after (end_of (map view (take i xs))) (view x)
+end_next view xs i x lt is = ap end_of (next view xs i x lt is) ∙ end_pushed (map view (take i xs)) (view x)
+
+pub end_next_fits : {X : Type 0} (view : X → OwnSection) (xs : List X) (i : ℕ) (x : X) → i < length xs → x ≡ get_or xs i x → end_of (map view xs) < 2 ^ 64
+    → end_after (end_of (map view (take i xs))) (view x) < 2 ^ 64
+end_next_fits view xs i x lt is h =
+    omega (arith, end_within (map view xs) (i + 1) 64, ap end_of (sections_next view xs i x lt is), end_pushed (map view (take i xs)) (view x), h)
+
+abbrev name_room : OwnSection → ℕ
+name_room s = length s.name + 1
+
+sum_within : (ss : List OwnSection) (k : ℕ) → sum_by name_room (take k ss) ≤ sum_by name_room ss
+sum_within [] zero = omega arith
+sum_within [] (suc k) = omega arith
+sum_within (s ∷ ss) zero = omega arith
+sum_within (s ∷ ss) (suc k) = omega (arith, sum_within ss k, sum_by-cons name_room s ss, sum_by-cons name_room s (take k ss))
+
+pub sum_next : {X : Type 0} (view : X → OwnSection) (xs : List X) (i : ℕ) (x : X) → i < length xs → x ≡ get_or xs i x
+    → sum_by name_room (map view (take (i + 1) xs)) ≡ sum_by name_room (map view (take i xs)) + name_room (view x)
+sum_next view xs i x lt is =
+    omega (arith, ap (sum_by name_room) (next view xs i x lt is), sum_by-append name_room (map view (take i xs)) (view x ∷ []), sum_by-cons name_room (view x) [])
+
+pub sum_next_fits : {X : Type 0} (view : X → OwnSection) (xs : List X) (i : ℕ) (x : X) → i < length xs → x ≡ get_or xs i x
+    → sum_by name_room (map view (take i xs)) + name_room (view x) ≤ sum_by name_room (map view xs)
+sum_next_fits view xs i x lt is =
+    omega (arith, sum_within (map view xs) (i + 1), ap (sum_by name_room) (take-map view (i + 1) xs), sum_next view xs i x lt is)

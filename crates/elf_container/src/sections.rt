@@ -136,7 +136,8 @@ impl<'a> RelView<'a> {
 
     /// The offset in the file of the table of section headers.
     pub fn table(&self) -> u64
-        ensures { result ≡ table_of self.now }
+        ensures value { result ≡ table_of self.now }
+        ensures within { size_of self.now < 2 ^ 64 }
     {
         let sections = self.sections.as_slice();
         aligned(self.offset_of(sections.len()) + names_size(sections))

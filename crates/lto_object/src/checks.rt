@@ -5,7 +5,8 @@ ghost use Rattle.gimple_ir.specs.Checks.{fault_of};
 ghost use Rattle.module_stream.specs.Bodies.{body_of};
 ghost use Rattle.lto_object.specs.BodyStream.{bodies_of};
 ghost use Rattle.lto_object.specs.SymbolStream.{stored_of};
-ghost use Rattle.lto_object.specs.Objects.{ranks_of};
+ghost use Rattle.lto_object.specs.SummaryStream.{FitSummaries};
+ghost use Rattle.lto_object.specs.Objects.{ranks_of, IsObject};
 ghost use Rattle.lto_object.specs.ObjectReading.{same_summary, summary_fault, summaries_fault, same_symbol, differs_from, type_fault, unless, checked, GivesSeen};
 ghost use Rattle.lto_object.specs.Streamed.{stored};
 
@@ -178,7 +179,10 @@ pub fn checked<'a>(alloc: Global, streams: Streams<'a>) -> Result<Object<'a>, Ob
     requires stated { IsStated streams.source }
     requires bodies { map (λ b. b.now) streams.bodies.items ≡ map body_of (bodies_of streams.source.functions) }
     requires summaries { FitSummaries streams.source streams.summaries }
-    ensures { GivesSeen (λ o. o.source) result (checked (stored streams.entry)) }
+    ensures exact { GivesSeen (λ o. o.source) result (checked (stored streams.entry)) }
+    ensures object { IfOk result IsObject }
+    ensures source { IfOk result (λ o. o.source ≡ streams.entry.source) }
+    ensures same { IfOk result (λ o. (streams.entry.summaries ≡ o.summaries) × (streams.entry.symbols ≡ map stored_of o.symbols)) }
 {
     let Streams {
         source,

@@ -3,6 +3,7 @@ ghost use Rattle.std.specs.Prelude.{◌≡◌, ◌≤◌, ◌^◌, ◌-◌, Ok, 
 ghost use Rattle.gimple_ir.specs.declared.types.Module.{Module};
 ghost use Rattle.gimple_ir.specs.Programs.{IsChecked};
 ghost use Rattle.elf_container.specs.Offsets.{size_of};
+ghost use Rattle.elf_container.specs.Layout.{layout_of};
 ghost use Rattle.lto_object.specs.Objects.{object_of, IsObject};
 ghost use Rattle.lto_object.specs.Forms.{IsForm, sections_fault};
 ghost use Rattle.lto_object.specs.ObjectReading.{fault_by, unless, read_file, read_of, Gives, GivesSeen};
@@ -48,6 +49,7 @@ fn read_file(alloc: Global, bytes: &[u8]) -> Result<RelView<'_>, ObjectError>
     ensures exact { GivesSeen (λ ss. ss) result (read_file bytes.now) }
     ensures form { IfOk result IsForm }
     ensures size { IfOk result (λ ss. size_of ss ≡ length bytes.now) }
+    ensures laid { IfOk result (λ ss. bytes.now ≡ layout_of ss) }
 {
     match read_rel(alloc, bytes) {
         Err(ElfError::NoMemory) => Err(ObjectError::NoMemory),
@@ -59,7 +61,8 @@ fn read_file(alloc: Global, bytes: &[u8]) -> Result<RelView<'_>, ObjectError>
 #[tactic(auto, unfolding(crate::specs::ObjectReading::read_of))]
 fn object(alloc: Global, bytes: &[u8]) -> Result<Object<'_>, ObjectError>
     requires { length bytes.now ≤ 2 ^ 32 - 2 }
-    ensures { Gives result (read_of bytes.now) }
+    ensures exact { Gives result (read_of bytes.now) }
+    ensures found { IfOk result (λ o. IsObject o × (bytes.now ≡ object_of o.source)) }
 {
     let view = read_file(alloc, bytes)?;
     let streams = read_streams(alloc, &view)?;

@@ -1,16 +1,17 @@
 //! The streams of an object, read in order.
-ghost use Rattle.std.specs.Prelude.{◌≡◌, ◌≤◌, ◌^◌, ◌-◌, [], map, drop, reverse, slice_get, unwrap_or, IfOk, if◌then◌else◌};
-ghost use Rattle.gimple_ir.specs.Programs.{IsStated};
+ghost use Rattle.std.specs.Prelude.{◌≡◌, ◌≤◌, ◌<◌, ◌+◌, ◌^◌, ◌-◌, [], length, map, drop, reverse, slice_get, unwrap_or, IfOk, if◌then◌else◌};
 ghost use Rattle.module_stream.specs.Bodies.{body_of};
+ghost use Rattle.module_stream.specs.Declarations.{decls_of, AreDeclarations};
 ghost use Rattle.module_stream.specs.DeclarationReading.{read_decls};
 ghost use Rattle.elf_container.specs.Offsets.{size_of};
+ghost use Rattle.elf_container.specs.ObjectReading.{part};
 ghost use Rattle.lto_object.specs.Bounds.{HasBounds, is_defined};
-ghost use Rattle.lto_object.specs.BodyStream.{bodies_of, FitBodies, read_bodies};
-ghost use Rattle.lto_object.specs.SummaryStream.{read_summaries};
-ghost use Rattle.lto_object.specs.SymbolStream.{read_symbols};
+ghost use Rattle.lto_object.specs.BodyStream.{bodies_bytes, FitBodies, read_bodies};
+ghost use Rattle.lto_object.specs.SummaryStream.{summaries_bytes, FitSummaries, read_summaries};
+ghost use Rattle.lto_object.specs.SymbolStream.{symbols_bytes, FitSymbols, read_symbols};
 ghost use Rattle.lto_object.specs.Forms.{IsForm};
 ghost use Rattle.lto_object.specs.ObjectReading.{with_body, filled, with_bodies, stream, read_streams, GivesSeen};
-ghost use Rattle.lto_object.specs.Streamed.{stored, IsPlaced, placed_error};
+ghost use Rattle.lto_object.specs.Streamed.{stored, IsPlaced, placed_error, AreStreams};
 
 use crate::bodies::{StoredBody, decode_bodies};
 use crate::bounds::is_defined;
@@ -166,8 +167,9 @@ fn declarations(alloc: Global, view: &RelView) -> Result<Module, ObjectError>
     requires form { IsForm view.now }
     requires size { size_of view.now ≤ 2 ^ 32 - 2 }
     ensures exact { GivesSeen (λ m. m) result (stream read_decls 1 view.now) }
-    ensures stated { IfOk result IsStated }
+    ensures found { IfOk result (λ m. AreDeclarations m × (part 1 view.now ≡ decls_of m)) }
     ensures bounds { IfOk result HasBounds }
+    ensures few { IfOk result (λ m. length m.structs + length m.arrays + length m.functions < 2 ^ 32) }
 {
     match decode_decls(alloc, part(view, 1)) {
         Ok(declared) => Ok(declared),
@@ -184,7 +186,7 @@ fn bodies<'a>(
     requires size { size_of view.now ≤ 2 ^ 32 - 2 }
     requires bounds { HasBounds declared.now }
     ensures exact { GivesSeen (λ bodies. bodies.items) result (stream (read_bodies declared.now) 2 view.now) }
-    ensures fit { IfOk result (λ bodies. FitBodies declared.now bodies.items) }
+    ensures found { IfOk result (λ bodies. FitBodies declared.now bodies.items × (part 2 view.now ≡ bodies_bytes bodies.items)) }
 {
     match decode_bodies(alloc, part(view, 2), declared) {
         Ok(bodies) => Ok(bodies),
@@ -201,6 +203,7 @@ fn summaries(
     requires size { size_of view.now ≤ 2 ^ 32 - 2 }
     requires bounds { HasBounds declared.now }
     ensures exact { GivesSeen (λ summaries. summaries) result (stream (read_summaries declared.now) 3 view.now) }
+    ensures found { IfOk result (λ summaries. FitSummaries declared.now summaries × (part 3 view.now ≡ summaries_bytes summaries)) }
 {
     match decode_summaries(alloc, part(view, 3), declared) {
         Ok(summaries) => Ok(summaries),
@@ -212,6 +215,7 @@ fn symbols(alloc: Global, view: &RelView) -> Result<List<StoredSymbol>, ObjectEr
     requires form { IsForm view.now }
     requires size { size_of view.now ≤ 2 ^ 32 - 2 }
     ensures exact { GivesSeen (λ symbols. symbols) result (stream read_symbols 4 view.now) }
+    ensures found { IfOk result (λ symbols. FitSymbols symbols × (part 4 view.now ≡ symbols_bytes symbols)) }
 {
     match decode_symbols(alloc, part(view, 4)) {
         Ok(symbols) => Ok(symbols),
@@ -225,8 +229,7 @@ pub fn read_streams<'a>(alloc: Global, view: &RelView<'a>) -> Result<Streams<'a>
     requires form { IsForm view.now }
     requires size { size_of view.now ≤ 2 ^ 32 - 2 }
     ensures exact { GivesSeen stored result (read_streams view.now) }
-    ensures stated { IfOk result (λ s. IsStated s.source) }
-    ensures bodies { IfOk result (λ s. map (λ b. b.now) s.bodies.items ≡ map body_of (bodies_of s.source.functions)) }
+    ensures found { IfOk result (AreStreams view.now) }
 {
     let declared = declarations(alloc, view)?;
     let bodies = bodies(alloc, view, &declared)?;

@@ -30,6 +30,9 @@ no_fault : (kind : ElfKind) (o : Option ℕ) → fault kind o ≡ None → o ≡
 no_fault kind None e = refl
 no_fault kind (Some offset) e = absurd cc
 
+pub same_layout : (bytes : List ℕ) (ss : List OwnSection) → difference 0 bytes (layout_of ss) ≡ None → bytes ≡ layout_of ss
+same_layout bytes ss e = no_difference 0 bytes (layout_of ss) e
+
 compared_is : (bytes : List ℕ) (ss found : List OwnSection) → compared bytes ss ≡ Ok found → bytes ≡ layout_of found
 unfolding compared
 compared_is bytes ss found e =

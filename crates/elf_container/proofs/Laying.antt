@@ -10,7 +10,7 @@ use Rattle.elf_container.specs.declared.sections.Fields.{Fields}
 use Rattle.elf_container.specs.Layout.{Parts, start, placed, placed_as}
 use Rattle.elf_container.specs.Container.{IsPlain, IsWritable, IsContainer}
 
-next : {X : Type 0} (view : X → OwnSection) (xs : List X) (i : ℕ) (x : X) → i < length xs → x ≡ get_or xs i x → map view (take (i + 1) xs) ≡ map view (take i xs) ++ view x ∷ []
+pub next : {X : Type 0} (view : X → OwnSection) (xs : List X) (i : ℕ) (x : X) → i < length xs → x ≡ get_or xs i x → map view (take (i + 1) xs) ≡ map view (take i xs) ++ view x ∷ []
 next view xs i x lt is =
     ap (map view) (take_more xs i x lt ∙ ap (λ y. take i xs ++ y ∷ []) (sym is)) ∙ map-append view (take i xs) (x ∷ [])
 

@@ -12,3 +12,4 @@ pub mod NamesSeen
 pub mod ObjectSteps
 pub mod EntryLaws
 pub mod ObjectLaws
+pub mod OffsetLaws

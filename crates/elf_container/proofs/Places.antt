@@ -28,7 +28,7 @@ front_le : (a b : List ℕ) → Begins a b → length a ≤ length b
 front_le a b h = omega (arith, ap length h.1, length-append a h.0)
 
 -- what stands at a place of the front's part behind that place
-at_front : (a x b : List ℕ) → Begins (a ++ x) b → (rest : List ℕ) × (drop (length a) b ≡ x ++ rest)
+pub at_front : (a x b : List ℕ) → Begins (a ++ x) b → (rest : List ℕ) × (drop (length a) b ≡ x ++ rest)
 at_front a x b h = (h.0, ap (drop (length a)) (h.1 ∙ append_assoc a x h.0) ∙ drop_at a (x ++ h.0) (length a) refl)
 
 -- ---- placing adds behind
@@ -164,7 +164,7 @@ fits bytes at p q s holds grown is = record {
   entry_size = is.fields.entry_size;
 }
 
-header_found : (bytes : List ℕ) (at : ℕ) (p q : Parts) (s : OwnSection) → Holds bytes at q → Grows (placed p s) q → IsSection s → header_at (at + length p.table) bytes ≡ header_by p s
+pub header_found : (bytes : List ℕ) (at : ℕ) (p q : Parts) (s : OwnSection) → Holds bytes at q → Grows (placed p s) q → IsSection s → header_at (at + length p.table) bytes ≡ header_by p s
 header_found bytes at p q s holds grown is =
     let there = at_front p.table (section_header (length p.names) (length (padded p.file)) (fields_of s) (length s.bytes)) q.table grown.table in
     header_there (at + length p.table) bytes there.0 (length p.names) (length (padded p.file)) (length s.bytes) (fields_of s) (fits bytes at p q s holds grown is)

@@ -56,25 +56,25 @@ last_read bytes names (h ∷ (g ∷ hs)) (s ∷ ss) last t =
 named_so : IsName shstrtab_name
 named_so = is_name shstrtab_name refl
 
-is_section : (names : List ℕ) → IsSection (shstrtab_of names)
+pub is_section : (names : List ℕ) → IsSection (shstrtab_of names)
 is_section names = record {
   plain = record { least = lit≤ tt; most = lit≤ tt; uncompressed = refl };
   name = named_so;
   fields = record { flags = lit< tt; link = lit< tt; info = lit< tt; entry_size = lit< tt };
 }
 
-all_push : (ss : List OwnSection) (s : OwnSection) → AllByRecursion IsSection ss → IsSection s → AllByRecursion IsSection (ss ++ s ∷ [])
+pub all_push : (ss : List OwnSection) (s : OwnSection) → AllByRecursion IsSection ss → IsSection s → AllByRecursion IsSection (ss ++ s ∷ [])
 all_push [] s all is = (is, tt)
 all_push (r ∷ ss) s all is = (all.0, all_push ss s all.1 is)
 
 -- the sections with `.shstrtab`
-abbrev names_before : List OwnSection → List ℕ
+abbrev pub names_before : List OwnSection → List ℕ
 names_before ss = (fold placed start ss).names
 
-abbrev with_names : List OwnSection → List OwnSection
+abbrev pub with_names : List OwnSection → List OwnSection
 with_names ss = ss ++ shstrtab_of (names_before ss) ∷ []
 
-parts_are : (ss : List OwnSection) → parts_of ss ≡ fold placed start (with_names ss)
+pub parts_are : (ss : List OwnSection) → parts_of ss ≡ fold placed start (with_names ss)
 unfolding parts_of
 parts_are ss = sym (fold-append placed start ss (shstrtab_of (names_before ss) ∷ []))
 
@@ -86,7 +86,7 @@ names_are ss = refl
 with_names_len : (ss : List OwnSection) → length (with_names ss) ≡ length ss + 1
 with_names_len ss = length-append ss (shstrtab_of (names_before ss) ∷ [])
 
-table_size : (ss : List OwnSection) → length (parts_of ss).table ≡ 64 * (length ss + 2)
+pub table_size : (ss : List OwnSection) → length (parts_of ss).table ≡ 64 * (length ss + 2)
 table_size ss = omega (arith, ap (λ (p : Parts). length p.table) (parts_are ss), tables_len (with_names ss) start, with_names_len ss, zeros_len 64)
 
 names_size : (ss : List OwnSection) → AllByRecursion IsSection ss → length (parts_of ss).names ≤ 1 + 301 * (length ss + 1)
@@ -94,7 +94,7 @@ names_size ss all =
     let few = names_few (with_names ss) start (all_push ss (shstrtab_of (names_before ss)) all (is_section (names_before ss))) in
     omega (arith, ap (λ (p : Parts). length p.names) (parts_are ss), few, with_names_len ss)
 
-room : (ss : List OwnSection) → 64 ≤ length (padded (parts_of ss).file)
+pub room : (ss : List OwnSection) → 64 ≤ length (padded (parts_of ss).file)
 room ss =
     let grown : Begins (zeros 64) (parts_of ss).file = subst (λ (p : Parts). Begins (zeros 64) p.file) (sym (parts_are ss)) (grows (with_names ss) start).file in
     omega (arith, ap length grown.1, length-append (zeros 64) grown.0, zeros_len 64, padded_len (parts_of ss).file)
@@ -103,12 +103,12 @@ room ss =
 abbrev behind : Parts → List ℕ
 behind q = drop 64 (padded q.file) ++ q.table
 
-layout_is : (ss : List OwnSection) → layout_of ss ≡ file_header (length (padded (parts_of ss).file)) (length ss + 2) ++ behind (parts_of ss)
+pub layout_is : (ss : List OwnSection) → layout_of ss ≡ file_header (length (padded (parts_of ss).file)) (length ss + 2) ++ behind (parts_of ss)
 unfolding layout_of
 layout_is ss = append_assoc (file_header (length (padded (parts_of ss).file)) (length ss + 2)) (drop 64 (padded (parts_of ss).file)) (parts_of ss).table
 
 -- from offset 64 on it is what was placed, and then the table
-behind_header : (table count offset : ℕ) (f t : List ℕ) → 64 ≤ length f → 64 ≤ offset → drop offset (file_header table count ++ (drop 64 f ++ t)) ≡ drop offset (f ++ t)
+pub behind_header : (table count offset : ℕ) (f t : List ℕ) → 64 ≤ length f → 64 ≤ offset → drop offset (file_header table count ++ (drop 64 f ++ t)) ≡ drop offset (f ++ t)
 behind_header table count offset f t long far =
     let k : 64 + (offset - 64) ≡ offset = omega arith in
     let left : drop 64 (file_header table count ++ (drop 64 f ++ t)) ≡ drop 64 f ++ t = drop_at (file_header table count) (drop 64 f ++ t) 64 (file_header_len table count) in
@@ -116,12 +116,12 @@ behind_header table count offset f t long far =
     sym (ap (λ n. drop n (file_header table count ++ (drop 64 f ++ t))) k) ∙ sym (drop-drop (offset - 64) 64 (file_header table count ++ (drop 64 f ++ t)))
     ∙ ap (drop (offset - 64)) (left ∙ sym right) ∙ drop-drop (offset - 64) 64 (f ++ t) ∙ ap (λ n. drop n (f ++ t)) k
 
-size_is : (ss : List OwnSection) → length (layout_of ss) ≡ length (padded (parts_of ss).file) + length (parts_of ss).table
+pub size_is : (ss : List OwnSection) → length (layout_of ss) ≡ length (padded (parts_of ss).file) + length (parts_of ss).table
 size_is ss =
     let q = parts_of ss in
     omega (arith, ap length (layout_is ss), length-append (file_header (length (padded q.file)) (length ss + 2)) (behind q), file_header_len (length (padded q.file)) (length ss + 2), length-append (drop 64 (padded q.file)) q.table, length-drop 64 (padded q.file), room ss)
 
-holds : (ss : List OwnSection) → length ss ≤ 65533 → AllByRecursion IsSection ss → length (layout_of ss) < 2 ^ 64 → Holds (layout_of ss) (length (padded (parts_of ss).file)) (parts_of ss)
+pub holds : (ss : List OwnSection) → length ss ≤ 65533 → AllByRecursion IsSection ss → length (layout_of ss) < 2 ^ 64 → Holds (layout_of ss) (length (padded (parts_of ss).file)) (parts_of ss)
 holds ss few all small =
     let q = parts_of ss in
     let file : (offset : ℕ) → 64 ≤ offset → drop offset (layout_of ss) ≡ drop offset (padded q.file ++ q.table) =
@@ -134,7 +134,7 @@ holds ss few all small =
       names = omega (arith, names_size ss all);
     }
 
-has_header : (ss : List OwnSection) → length ss ≤ 65533 → length (layout_of ss) < 2 ^ 64 → HasHeader (layout_of ss) (length (padded (parts_of ss).file)) (length ss + 2)
+pub has_header : (ss : List OwnSection) → length ss ≤ 65533 → length (layout_of ss) < 2 ^ 64 → HasHeader (layout_of ss) (length (padded (parts_of ss).file)) (length ss + 2)
 has_header ss few small = record {
   rest = behind (parts_of ss);
   is = layout_is ss;

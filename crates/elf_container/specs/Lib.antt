@@ -1,5 +1,6 @@
 pub mod Format
 pub mod Layout
+pub mod Offsets
 pub mod Views
 pub mod Container
 pub mod Reading

@@ -1,7 +1,7 @@
 //! Relocatable ELF-64 files for RISC-V, each with one spelling: how sections are laid out in a file, and how they are read.
 //!
-//! In specs/, `Format` has the two headers, `Layout` the one layout of a list of sections, `Container` the lists of sections that
-//! a file can have, and `Reading` the first fault of a file. `read_rel` finds what `write_rel` wrote, and nothing else: it lends
+//! In specs/, `Format` has the two headers, `Layout` the one layout of a list of sections, `Offsets` where they stand in it,
+//! `Container` the lists of sections that a file can have, and `Reading` the first fault of a file. `read_rel` finds what `write_rel` wrote, and nothing else: it lends
 //! the sections' bytes from the file, lays the sections out again, and compares. That takes the file's size in memory beside
 //! the value, and time in proportion to it.
 //!
@@ -22,6 +22,7 @@ mod placing;
 mod reading;
 mod relocatable;
 mod sections;
+mod stands;
 mod writing;
 
 pub use fault::{ElfError, ElfFault, ElfKind};
@@ -29,6 +30,7 @@ pub use object_reading::read_object_form;
 pub use reading::read_rel;
 pub use relocatable::{FormError, RelSymbol, Reloc, RelocObject, write_object};
 pub use sections::{OwnSection, RelView, Section};
+pub use stands::sections_stand_in_order;
 pub use writing::write_rel;
 
 #[cfg(test)]

@@ -14,8 +14,8 @@ use Rattle.gimple_ir.specs.declared.types.Statement.TheVariants.{Nop, Label, Got
 use Rattle.module_stream.specs.declared.bounds.BodyBounds.{BodyBounds}
 use Rattle.module_stream.specs.declared.codes.Opcode.{Opcode}
 use Rattle.module_stream.specs.declared.codes.Opcode.TheVariants as op
-use Rattle.module_stream.specs.Codes.{opcode_code, binary_code, unary_code, type_code}
-use Rattle.module_stream.specs.Fields.{counted_of, FitsAll, value_bytes}
+use Rattle.module_stream.specs.Codes.{opcode_code, binary_code, unary_code}
+use Rattle.module_stream.specs.Fields.{counted_of, FitsAll, value_bytes, typed_value_of}
 
 -- ---- operands, arguments and cases
 
@@ -25,7 +25,7 @@ component_count b = min (length b.types) (2 ^ 32)
 
 abbrev pub operand_of : Operand → List ℕ
 operand_of (Component i) = 0 ∷ uleb_of i
-operand_of (Literal v) = type_code v.ty ∷ value_bytes v
+operand_of (Literal v) = typed_value_of v
 
 abbrev pub FitsOperand : BodyBounds → Operand → Type 0
 FitsOperand b (Component i) = i < component_count b

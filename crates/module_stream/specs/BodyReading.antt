@@ -25,6 +25,10 @@ component_at b = number_below (component_count b)
 unfoldable pub value_at : ScalarType → Cursor → Result (Value × Cursor) ℕ
 value_at ty = made (λ n. value_of ty (from_residue ty n)) (number_below (modulus ty))
 
+-- a type's code, and a residue of the type
+unfoldable pub typed_value_at : Cursor → Result (Value × Cursor) ℕ
+typed_value_at = made (λ x. x.1) (depends (coded type_table) value_at)
+
 abbrev pub literal_by : ℕ → Option ScalarType → Cursor → Result (Operand × Cursor) ℕ
 literal_by offset None c = Err offset
 literal_by offset (Some ty) c = made (λ v. Literal v) (value_at ty) c

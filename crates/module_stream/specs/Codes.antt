@@ -1,5 +1,5 @@
--- The bytes that stand for opcodes, operators, types and linkage: for each sort its table, and the byte of each.
-use Rattle.std.specs.Prelude.{ℕ, List, [], ◌∷◌}
+-- The bytes that stand for opcodes, operators, types, linkage and flags: for each sort its table, and the byte of each.
+use Rattle.std.specs.Prelude.{ℕ, List, [], ◌∷◌, Bool, true, false}
 use Rattle.gimple_ir.specs.declared.types.ScalarType.{ScalarType}
 use Rattle.gimple_ir.specs.declared.types.ScalarType.TheVariants as scalar
 use Rattle.gimple_ir.specs.declared.types.ElementType.{ElementType}
@@ -116,3 +116,12 @@ linkage_code linkage.Extern = 0
 linkage_code linkage.Strong = 1
 linkage_code linkage.Weak = 2
 linkage_code linkage.Static = 3
+
+-- ---- flags
+
+abbrev pub flag_table : List (ℕ × Bool)
+flag_table = (0, false) ∷ (1, true) ∷ []
+
+abbrev pub flag_code : Bool → ℕ
+flag_code false = 0
+flag_code true = 1

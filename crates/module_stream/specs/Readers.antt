@@ -1,6 +1,6 @@
 -- Readers of fields: the value and the place after it, or the offset of the first byte of the first field that is bad.
 -- Nothing here is about statements or declarations.
-use Rattle.std.specs.Prelude.{◌≡◌, ℕ, zero, suc, ◌^◌, ◌==◌, List, [], ◌∷◌, ◌++◌, length, Option, Some, None, Result, Ok, Err, Bool, nat_lt, if◌then◌else◌}
+use Rattle.std.specs.Prelude.{◌≡◌, ℕ, zero, suc, ◌+◌, ◌-◌, ◌^◌, ◌≤◌, ◌==◌, List, [], ◌∷◌, ◌++◌, length, Option, Some, None, Result, Ok, Err, Bool, nat_lt, if◌then◌else◌}
 use Rattle.cursors.specs.declared.cursor.ReadError.{ReadError}
 use Rattle.cursors.specs.Cursor.{Cursor, at, offset_of, is_nil}
 use Rattle.cursors.specs.Reading.{byte_at, slice_at, uleb_at}
@@ -36,6 +36,17 @@ GivesSeen view (Err e) new read = Fails e read
 abbrev pub GivesAll : {A : Type 0} → Result A StreamError → Result A ℕ → Type 0
 GivesAll (Ok x) read = read ≡ Ok x
 GivesAll (Err e) read = Fails e read
+
+-- the same of a value that is seen by view
+abbrev pub GivesAllSeen : {X A : Type 0} → (X → A) → Result X StreamError → Result A ℕ → Type 0
+GivesAllSeen view (Ok x) read = read ≡ Ok (view x)
+GivesAllSeen view (Err e) read = Fails e read
+
+-- the offset of a fault is at most this
+abbrev pub IsWithin : {A : Type 0} → ℕ → Result A StreamError → Type 0
+IsWithin most (Ok x) = Unit {0}
+IsWithin most (Err errors.NoMemory) = Unit {0}
+IsWithin most (Err (errors.BadStream offset)) = offset ≤ most
 
 -- ---- fields
 
@@ -102,9 +113,23 @@ repeated read (suc n) c = read c >>= λ x. repeated read n x.1 >>= λ y. Ok (x.0
 abbrev pub counted : {A : Type 0} → Reader A → Cursor → Result (List A × Cursor) ℕ
 counted read c = number_below (2 ^ 32) c >>= λ n. repeated read n.0 n.1
 
+-- one for each of the bounds, in order
+unfoldable pub in_turn : {B A : Type 0} → (B → Reader A) → List B → Cursor → Result (List A × Cursor) ℕ
+in_turn read [] c = Ok ([], c)
+in_turn read (b ∷ bs) c = read b c >>= λ x. in_turn read bs x.1 >>= λ y. Ok (x.0 ∷ y.0, y.1)
+
 -- what is read, after items that were there before
 abbrev pub after : {A : Type 0} → List A → Result (List A × Cursor) ℕ → Result (List A × Cursor) ℕ
 after front read = read >>= λ x. Ok (front ++ x.0, x.1)
+
+-- what was read of bytes that begin at an offset
+abbrev pub shifted : {A : Type 0} → ℕ → Result A ℕ → Result A ℕ
+shifted start (Ok x) = Ok x
+shifted start (Err e) = Err (start + e)
+
+-- a length and as many bytes, of which all are read: the field is bad where fewer stand after it
+abbrev pub sized : {A : Type 0} → (List ℕ → Result A ℕ) → Cursor → Result (A × Cursor) ℕ
+sized read c = text c >>= λ t. shifted (offset_of t.1 - length t.0) (read t.0) >>= λ x. Ok (x, t.1)
 
 -- all of the bytes: those that are left over are bad at the first of them
 abbrev pub whole : {A : Type 0} → Reader A → List ℕ → Result A ℕ

@@ -15,8 +15,8 @@ pub struct BodyBounds {
 }
 
 impl BodyBounds {
-    // Each count fits a u32.
-    pub(crate) fn are_counts(&self)
+    /// Each count fits a u32.
+    pub fn are_counts(&self)
         ensures variables { self.now.variables < 2 ^ 32 }
         ensures labels { self.now.labels < 2 ^ 32 }
         ensures arrays { self.now.arrays < 2 ^ 32 }
@@ -28,8 +28,8 @@ impl BodyBounds {
         let _functions = self.functions;
     }
 
-    // How many components can be named by a u32.
-    pub(crate) fn component_count(&self) -> u64
+    /// How many components can be named by a u32.
+    pub fn component_count(&self) -> u64
         ensures { result ≡ component_count self.now }
     {
         (self.types.len() as u64).min(1 << 32)

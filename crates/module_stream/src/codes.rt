@@ -1,4 +1,4 @@
-//! The bytes that stand for opcodes, operators, types and linkage.
+//! The bytes that stand for opcodes, operators, types, linkage and flags.
 ghost use Rattle.std.specs.Prelude.{◌≡◌};
 ghost use Rattle.module_stream.specs.Readers.{pick};
 
@@ -290,5 +290,25 @@ impl Coded for Linkage {
             Linkage::Weak => 2,
             Linkage::Static => 3,
         }
+    }
+}
+
+impl Coded for bool {
+    ghost use Rattle.module_stream.specs.Codes.{flag_table, flag_code};
+
+    ghost table = { flag_table };
+
+    ghost code_of = { flag_code };
+
+    fn from_code(code: u8) -> Option<bool> {
+        match code {
+            0 => Some(false),
+            1 => Some(true),
+            _ => None,
+        }
+    }
+
+    fn code(self) -> u8 {
+        if self { 1 } else { 0 }
     }
 }

@@ -2,7 +2,7 @@
 ghost use Rattle.std.specs.Prelude.{◌≡◌, ◌<◌, ◌≤◌, ◌^◌, IfOk};
 ghost use Rattle.gimple_ir.specs.Values.{modulus};
 ghost use Rattle.module_stream.specs.Readers.{Gives, GivesSeen, byte, number_below, bytes_of_field, text, coded};
-ghost use Rattle.module_stream.specs.BodyReading.{value_at};
+ghost use Rattle.module_stream.specs.BodyReading.{value_at, typed_value_at};
 
 use crate::codes::Coded;
 use crate::fault::StreamError;
@@ -100,4 +100,13 @@ pub fn value(cursor: &mut ByteCursor, ty: ScalarType) -> Result<Value, StreamErr
         ty,
         num: ty.from_residue(bits),
     })
+}
+
+/// The code of a type, and a value of the type.
+#[tactic(auto, unfolding(crate::specs::BodyReading::typed_value_at))]
+pub fn typed_value(cursor: &mut ByteCursor) -> Result<Value, StreamError>
+    ensures { Gives result cursor.new (typed_value_at cursor.old) }
+{
+    let ty: ScalarType = coded(cursor)?;
+    value(cursor, ty)
 }

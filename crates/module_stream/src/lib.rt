@@ -1,7 +1,7 @@
 //! The streams of one module: its declarations, and the body of each function, each with one spelling and read from left
 //! to right up to the first bad field.
 //!
-//! In specs/, `Codes` has the bytes that stand for opcodes, operators, types and linkage, `Bodies` and `Declarations` the
+//! In specs/, `Codes` has the bytes that stand for opcodes, operators, types, linkage and flags, `Bodies` and `Declarations` the
 //! spelling as a function of the value, `BodyReading` and `DeclarationReading` what reading gives, with its faults.
 //! `Fields` and `Readers` are of any stream; so are `Encode` and `Decode`.
 #![tactic(auto)]
@@ -31,7 +31,8 @@ pub use declarations::{
 pub use decode::{Decode, counted, counted_after, repeated, repeated_after};
 pub use encode::{Encode, put_counted, put_text};
 pub use fault::StreamError;
-pub use fields::{byte, coded, number_below, place_below, text, value};
+pub use fields::{byte, coded, number_below, place_below, text, typed_value, value};
+pub use operands::{component, put_typed_value};
 
 #[cfg(test)]
 mod tests;

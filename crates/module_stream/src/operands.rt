@@ -1,7 +1,7 @@
 //! Operands, arguments and the cases of a switch, written and read.
 ghost use Rattle.std.specs.Prelude.{◌≡◌, ◌++◌, OnOk};
 ghost use Rattle.module_stream.specs.Bodies.{component_count, operand_of, type_of};
-ghost use Rattle.module_stream.specs.Fields.{value_bytes, counted_of};
+ghost use Rattle.module_stream.specs.Fields.{value_bytes, typed_value_of, counted_of};
 ghost use Rattle.module_stream.specs.Bodies.{arg_of};
 ghost use Rattle.module_stream.specs.Readers.{Gives, number_below, repeated, counted};
 ghost use Rattle.module_stream.specs.BodyReading.{component_at, operand_from, operand_at, arg_at, case_at};
@@ -24,6 +24,14 @@ fn put_value(out: &mut Vec<u8>, value: Value) -> Result<(), NoMemory>
     put_uleb(out, value.ty.residue(value.num))
 }
 
+/// Writes the code of the value's type, and its residue.
+pub fn put_typed_value(out: &mut Vec<u8>, value: Value) -> Result<(), NoMemory>
+    ensures { OnOk result (out.new.items ≡ out.old.items ++ typed_value_of value) }
+{
+    out.push(value.ty.code())?;
+    put_value(out, value)
+}
+
 pub fn put_operand(out: &mut Vec<u8>, operand: Operand) -> Result<(), NoMemory>
     ensures { OnOk result (out.new.items ≡ out.old.items ++ operand_of operand) }
 {
@@ -32,10 +40,7 @@ pub fn put_operand(out: &mut Vec<u8>, operand: Operand) -> Result<(), NoMemory>
             out.push(0)?;
             put_uleb(out, u64::from(place))
         }
-        Operand::Literal(value) => {
-            out.push(value.ty.code())?;
-            put_value(out, value)
-        }
+        Operand::Literal(value) => put_typed_value(out, value),
     }
 }
 

@@ -5,7 +5,10 @@ use Rattle.outer_files.specs.Outside.{Contents, WhereTold, Writes, WritesPrefix,
 use Rattle.gimple_ir.specs.declared.types.Module.{Module}
 use Rattle.gimple_syntax.specs.declared.text.TextFault.{TextFault}
 use Rattle.gimple_syntax.specs.Reading.{read_of}
-use Rattle.whopr_words.specs.Commands.{Spoken, Cc, Run}
+use Rattle.lto_object.specs.declared.fault.ObjectFault.{ObjectFault}
+use Rattle.lto_object.specs.Objects.{object_of}
+use Rattle.lto_object.specs.ObjectReading.{read_of as read_object_of}
+use Rattle.whopr_words.specs.Commands.{Spoken, Cc, Lgen, Show, Run}
 use Rattle.rv64_meaning.specs.Laws.{output_of}
 use Rattle.rv64_meaning.specs.Loading.{load_fault_of, run_of}
 use Rattle.follow_laws.specs.Follows.{Follows}
@@ -14,8 +17,8 @@ use Rattle.first_form.specs.Form.{Spells}
 use Rattle.first_form.specs.Compiled.{FollowsText, IsImageOf}
 use Rattle.first_form.specs.Source.{program_of}
 use Rattle.whopr_top.specs.Reads.{reads_of, AreHeld}
-use Rattle.whopr_top.specs.Lines.{line, text_line, outcome_line}
-use Rattle.whopr_top.specs.Judgements.{File, Judgement, Refuses, Gives, Judges, JudgesForm, JudgesText, run_by}
+use Rattle.whopr_top.specs.Lines.{line, text_line, object_line, outcome_line}
+use Rattle.whopr_top.specs.Judgements.{File, Judgement, Refuses, Gives, Judges, JudgesForm, JudgesText, lgen_by, show_by, run_by}
 use Rattle.whopr_top.specs.Outputs.{IsJudged, IsRefused, IsDone, IsCutShort, WritesAll, CutsShort, Faithful, IsFaithful, Refused, IsValid}
 use Rattle.whopr_top.specs.Answers.{Exactly}
 use Rattle.whopr_top.specs.Attempts.{Judged}
@@ -53,6 +56,8 @@ alike_texts output text (Ok source) (Gives w x) (Gives v y) h k = tt
 
 alike : (command : Spoken) (cs : List (List ℕ)) (a b : Judgement) → Judges command cs a → Judges command cs b → Alike a b
 alike (Cc input output) (text ∷ []) a b h k = alike_texts output text (read_of text) a b h k
+alike (Lgen input output) (text ∷ []) a b h k = alike_to a b (lgen_by output (read_of text)) h k
+alike (Show object) (bytes ∷ []) a b h k = alike_to a b (show_by (read_object_of bytes)) h k
 alike (Run image steps input output) (bytes ∷ given ∷ []) a b h k = alike_to a b (run_by output (load_fault_of bytes) (run_of bytes given steps)) h k
 alike command contents a b h k = absurd h
 
@@ -119,6 +124,13 @@ two_reads limit (Some held) between first second name bytes same is within too f
 
 -- ---- writes
 
+stands : (old : Option Contents) → WhereTold old old (WritesAll [])
+stands None = tt
+stands (Some held) = refl
+
+pub none_written : (old new : Option Contents) → new ≡ old → WhereTold old new (WritesAll [])
+none_written old new same = subst (λ (o : Option Contents). WhereTold old o (WritesAll [])) (sym same) (stands old)
+
 pub one_written : (old new : Option Contents) (name bytes : List ℕ) → WhereTold old new (Writes name bytes) → WhereTold old new (WritesAll ((name, bytes) ∷ []))
 one_written old new name bytes writes = told_both (Writes name bytes) (WritesAll ((name, bytes) ∷ [])) old new (λ held then w. (then, w, refl)) writes
 
@@ -157,6 +169,8 @@ faithful limit (Cc input output) old new w x [] read judged writes = absurd read
 faithful limit (Cc input output) old new w x (text ∷ []) read judged writes =
     faithful_text limit input output text old new w x read.0 (given_form output text (read_of text) w x judged) writes
 faithful limit (Cc input output) old new w x (text ∷ other ∷ more) read judged writes = absurd read.2
+faithful limit (Lgen input output) old new w x cs read judged writes = tt
+faithful limit (Show object) old new w x cs read judged writes = tt
 faithful limit (Run image steps input output) old new w x cs read judged writes = tt
 
 -- ---- what the command came to
@@ -166,6 +180,7 @@ pub refused : (limit : ℕ) (command : Spoken) (old new : Option Contents) (befo
 refused limit command old new before now s x cs not_0 not_6 read judged =
     let at = λ (held : Contents) (told : old ≡ Some held). told_at (λ held. AreHeld limit held (reads_of command) cs) old held read told in
     record {
+      object = λ held told _. exactly_refused limit held command cs s 3 x (at held told) judged;
       spelled = λ held told _. exactly_refused limit held command cs s 9 x (at held told) judged;
       image = λ held told _. exactly_refused limit held command cs s 11 x (at held told) judged;
       unbuilt = λ held told _. exactly_refused limit held command cs s 13 x (at held told) judged;
@@ -184,6 +199,7 @@ done limit command old between new before now w x cs same read judged writes =
     let at = λ (held : Contents) (told : old ≡ Some held). told_at (λ held. AreHeld limit held (reads_of command) cs) old held read told in
     let then = subst (λ (o : Option Contents). WhereTold o new (WritesAll w)) same writes in
     record {
+      object = λ held told _. exactly_other limit held command cs 0 3 w x (λ is. grind (arith, is)) (at held told) judged;
       spelled = λ held told _. exactly_other limit held command cs 0 9 w x (λ is. grind (arith, is)) (at held told) judged;
       image = λ held told _. exactly_other limit held command cs 0 11 w x (λ is. grind (arith, is)) (at held told) judged;
       unbuilt = λ held told _. exactly_other limit held command cs 0 13 w x (λ is. grind (arith, is)) (at held told) judged;
@@ -203,6 +219,7 @@ pub cut_short : (limit : ℕ) (command : Spoken) (old between new : Option Conte
 cut_short limit command old between new before now w x y cs same read judged writes rose =
     let at = λ (held : Contents) (told : old ≡ Some held). told_at (λ held. AreHeld limit held (reads_of command) cs) old held read told in
     record {
+      object = λ held told _. exactly_other limit held command cs 6 3 w x (λ is. grind (arith, is)) (at held told) judged;
       spelled = λ held told _. exactly_other limit held command cs 6 9 w x (λ is. grind (arith, is)) (at held told) judged;
       image = λ held told _. exactly_other limit held command cs 6 11 w x (λ is. grind (arith, is)) (at held told) judged;
       unbuilt = λ held told _. exactly_other limit held command cs 6 13 w x (λ is. grind (arith, is)) (at held told) judged;
@@ -227,6 +244,20 @@ text_judged output text source judgement e h = subst (λ (r : Result Module Text
 pub image_given : (output text image printed : List ℕ) (source : Module) → read_of text ≡ Ok source → IsImageOf text image → printed ≡ []
     → JudgesText output text (read_of text) (Gives ((output, image) ∷ []) printed)
 image_given output text image printed source e is_image none = text_judged output text source (Gives ((output, image) ∷ []) printed) e (image, is_image, refl, none)
+
+-- ---- the judgement of `lgen`
+
+pub lgen_faults : (output text : List ℕ) (fault : TextFault) → read_of text ≡ Err fault → Refuses 9 (text_line fault.line fault.kind) ≡ lgen_by output (read_of text)
+lgen_faults output text fault e = rw e refl
+
+pub lgen_gives : (output text written printed : List ℕ) (source : Module) → read_of text ≡ Ok source → written ≡ object_of source → printed ≡ []
+    → Gives ((output, written) ∷ []) printed ≡ lgen_by output (read_of text)
+lgen_gives output text written printed source e is none = rw (e, is, none) refl
+
+-- ---- the judgement of `show`
+
+pub show_faults : (bytes : List ℕ) (fault : ObjectFault) → read_object_of bytes ≡ Err fault → Refuses 3 (object_line 0 fault) ≡ show_by (read_object_of bytes)
+show_faults bytes fault e = rw e refl
 
 -- ---- the judgement of `run`
 

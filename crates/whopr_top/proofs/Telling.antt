@@ -3,12 +3,12 @@ use Rattle.std.proofs.Common.{◌≡◌, ◌≢◌, ℕ, List, [], ◌∷◌, Op
 use Rattle.std.specs.Prelude.{◌++◌, codes, decimal}
 use Rattle.outer_files.specs.Outside.{Contents, Known, Rose, RoseBy}
 use Rattle.whopr_words.specs.Commands.{Spoken}
-use Rattle.whopr_top.specs.Lines.{line, kind_word}
+use Rattle.whopr_top.specs.Lines.{line, kind_word, object_word, object_place}
 use Rattle.whopr_top.specs.Answers.{Exactly, lines_of, IsQuiet, IsLine, PutsFault, PutsLine, after_fault, WasPut}
 use Rattle.whopr_top.specs.Attempts.{Lined, Judged}
 use Rattle.whopr_top.specs.Refusal.{Reports, Tells, refusal_line, status_of}
 use Rattle.whopr_top.specs.declared.refusal.Refusal.{Refusal}
-use Rattle.whopr_top.specs.declared.refusal.Refusal.TheVariants.{NoCommand, TooLong, Read, Write, Memory, Text, Image, Unbuilt}
+use Rattle.whopr_top.specs.declared.refusal.Refusal.TheVariants.{NoCommand, Object, TooLong, Read, Write, Memory, Text, Image, Unbuilt}
 
 line_is : (limit : ℕ) (held new : Option Contents) (command : Option Spoken) (before now status : ℕ) (text : List ℕ) → Lined limit command held status text
     → Judged limit command held new before now status text → IsLine limit held command status text
@@ -16,6 +16,7 @@ line_is limit held new command before now status text lined judged = record {
   done = judged.done_line;
   quiet = lined.quiet;
   words = lined.words;
+  object = lined.object;
   over = lined.over;
   read = lined.read;
   write = lined.write;
@@ -31,6 +32,7 @@ memory_line limit held command = record {
   done = λ is. grind (arith, is);
   quiet = λ is. grind (arith, is);
   words = λ is. grind (arith, is);
+  object = λ is. grind (arith, is);
   over = λ is. grind (arith, is);
   read = λ is. grind (arith, is);
   write = λ is. grind (arith, is);
@@ -48,6 +50,7 @@ same_status status not_0 = grind (arith, not_0)
 
 pub not_done : (refusal : Refusal) → status_of refusal ≢ 0
 not_done NoCommand = λ is. grind (arith, is)
+not_done (Object number fault) = λ is. grind (arith, is)
 not_done TooLong = λ is. grind (arith, is)
 not_done (Read name) = λ is. grind (arith, is)
 not_done (Write name) = λ is. grind (arith, is)
@@ -65,6 +68,7 @@ line_is_some (byte ∷ text) = some byte (line text)
 
 pub refusal_is_some : (refusal : Refusal) → refusal_line refusal ≢ []
 refusal_is_some NoCommand = line_is_some (codes "2 words")
+refusal_is_some (Object number fault) = line_is_some (((codes "3 object " ++ (decimal number ++ codes " ")) ++ object_word fault) ++ object_place fault)
 refusal_is_some TooLong = line_is_some (codes "4 limit FileBytes 16777217 16777216")
 refusal_is_some (Read name) = line_is_some (codes "5 read " ++ name.now)
 refusal_is_some (Write name) = line_is_some (codes "6 write " ++ name.now)

@@ -3,9 +3,10 @@ use Rattle.std.specs.Prelude.{◌≡◌, ◌≢◌, ℕ, ◌==◌, ◌⊎◌, Li
 use Rattle.std.specs.List.{list_any}
 use Rattle.outer_files.specs.Outside.{Contents, Known, TookPiece, FailedPiece, LackedMemory}
 use Rattle.gimple_syntax.specs.declared.text.TextKind.{TextKind}
-use Rattle.whopr_words.specs.Commands.{Spoken, Cc, Run}
+use Rattle.lto_object.specs.declared.fault.ObjectFault.{ObjectFault}
+use Rattle.whopr_words.specs.Commands.{Spoken, Cc, Lgen, Show, Run}
 use Rattle.whopr_top.specs.Reads.{reads_of, MayWrite, IsReached}
-use Rattle.whopr_top.specs.Lines.{line, text_line}
+use Rattle.whopr_top.specs.Lines.{line, text_line, object_line}
 use Rattle.whopr_top.specs.Judgements.{File}
 use Rattle.whopr_top.specs.Outputs.{IsJudged, IsRefused}
 
@@ -16,15 +17,15 @@ pub record Exactly (status result : ℕ) (cause : Type 0) : Type 0 where
 
 -- the statuses that there are
 abbrev pub is_status : ℕ → Bool
-is_status status = list_any (λ s. s == status) (0 ∷ 2 ∷ 4 ∷ 5 ∷ 6 ∷ 7 ∷ 9 ∷ 11 ∷ 13 ∷ [])
+is_status status = list_any (λ s. s == status) (0 ∷ 2 ∷ 3 ∷ 4 ∷ 5 ∷ 6 ∷ 7 ∷ 9 ∷ 11 ∷ 13 ∷ [])
 
 -- the statuses of a command that was refused before its first write
 abbrev pub is_early : ℕ → Bool
-is_early status = list_any (λ s. s == status) (2 ∷ 4 ∷ 5 ∷ 9 ∷ 11 ∷ 13 ∷ [])
+is_early status = list_any (λ s. s == status) (2 ∷ 3 ∷ 4 ∷ 5 ∷ 9 ∷ 11 ∷ 13 ∷ [])
 
 -- the statuses of a command that what it read refuses
 abbrev pub is_judged : ℕ → Bool
-is_judged status = list_any (λ s. s == status) (9 ∷ 11 ∷ 13 ∷ [])
+is_judged status = list_any (λ s. s == status) (3 ∷ 9 ∷ 11 ∷ 13 ∷ [])
 
 -- how many lines that name a file are printed with a status of 5 or 6, where the sink itself does not fail
 abbrev pub lines_of : ℕ → ℕ
@@ -34,6 +35,8 @@ lines_of status = if status == 5 then 1 else if status == 6 then 1 else 0
 abbrev pub IsQuiet : Option Spoken → Type 0
 IsQuiet None = ⊥
 IsQuiet (Some (Cc input output)) = Unit {0}
+IsQuiet (Some (Lgen input output)) = Unit {0}
+IsQuiet (Some (Show object)) = ⊥
 IsQuiet (Some (Run image steps input output)) = ⊥
 
 -- The text that goes with a status, by what the command reads, where that is told.
@@ -41,6 +44,7 @@ pub record IsLine (limit : ℕ) (held : Option Contents) (command : Option Spoke
   pub done : status ≡ 0 → IfSome held (λ files. IsSomeAnd command (λ c. (written : List File) × IsJudged limit c files written text))
   pub quiet : status ≡ 0 → IsQuiet command → text ≡ []
   pub words : status ≡ 2 → text ≡ line (codes "2 words")
+  pub object : status ≡ 3 → (number : ℕ) × (fault : ObjectFault) × (text ≡ object_line number fault)
   pub over : status ≡ 4 → text ≡ line (codes "4 limit FileBytes 16777217 16777216")
   pub read : status ≡ 5 → IsSomeAnd command (λ c. (name : List ℕ) × IfSome held (λ files. IsReached limit files (reads_of c) name) × (text ≡ line (codes "5 read " ++ name)))
   pub write : status ≡ 6 → IsSomeAnd command (λ c. (name : List ℕ) × MayWrite c name × (text ≡ line (codes "6 write " ++ name)))

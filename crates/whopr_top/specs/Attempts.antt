@@ -3,9 +3,10 @@ use Rattle.std.specs.Prelude.{◌≡◌, ◌≢◌, ℕ, ◌⊎◌, List, [], Op
 use Rattle.std.specs.Option.{ForSome}
 use Rattle.outer_files.specs.Outside.{Contents, WhereTold, Rose, RoseBy}
 use Rattle.gimple_syntax.specs.declared.text.TextKind.{TextKind}
+use Rattle.lto_object.specs.declared.fault.ObjectFault.{ObjectFault}
 use Rattle.whopr_words.specs.Commands.{Spoken}
 use Rattle.whopr_top.specs.Reads.{reads_of, MayWrite, IsOverLimit, IsAbsent, IsReached}
-use Rattle.whopr_top.specs.Lines.{line, text_line}
+use Rattle.whopr_top.specs.Lines.{line, text_line, object_line}
 use Rattle.whopr_top.specs.Judgements.{File}
 use Rattle.whopr_top.specs.Outputs.{IsJudged, IsRefused, Done, Faithful, CutShort, Refused, IsValid}
 use Rattle.whopr_top.specs.Answers.{Exactly, is_status, is_early, is_judged, lines_of, IsQuiet}
@@ -29,6 +30,7 @@ pub record Counted (before now status : ℕ) : Type 0 where
 pub record Lined (limit : ℕ) (command : Option Spoken) (old : Option Contents) (status : ℕ) (text : List ℕ) : Type 0 where
   pub quiet : status ≡ 0 → IsQuiet command → text ≡ []
   pub words : status ≡ 2 → text ≡ line (codes "2 words")
+  pub object : status ≡ 3 → (number : ℕ) × (fault : ObjectFault) × (text ≡ object_line number fault)
   pub over : status ≡ 4 → text ≡ line (codes "4 limit FileBytes 16777217 16777216")
   pub read : status ≡ 5 → IsSomeAnd command (λ c. (name : List ℕ) × IfSome old (λ files. IsReached limit files (reads_of c) name) × (text ≡ line (codes "5 read " ++ name)))
   pub write : status ≡ 6 → IsSomeAnd command (λ c. (name : List ℕ) × MayWrite c name × (text ≡ line (codes "6 write " ++ name)))
@@ -39,6 +41,7 @@ pub record Lined (limit : ℕ) (command : Option Spoken) (old : Option Contents)
 
 -- what the command comes to by what it read
 pub record Judged (limit : ℕ) (command : Option Spoken) (old new : Option Contents) (before now status : ℕ) (text : List ℕ) : Type 0 where
+  pub object : ForSome old (λ held. status ≢ 5 → Exactly 3 status (Refused 3 limit held command))
   pub spelled : ForSome old (λ held. status ≢ 5 → Exactly 9 status (Refused 9 limit held command))
   pub image : ForSome old (λ held. status ≢ 5 → Exactly 11 status (Refused 11 limit held command))
   pub unbuilt : ForSome old (λ held. status ≢ 5 → Exactly 13 status (Refused 13 limit held command))

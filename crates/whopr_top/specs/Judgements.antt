@@ -3,13 +3,17 @@ use Rattle.std.specs.Prelude.{◌≡◌, ℕ, List, [], ◌∷◌, ◌++◌, Opt
 use Rattle.gimple_ir.specs.declared.types.Module.{Module}
 use Rattle.gimple_syntax.specs.declared.text.TextFault.{TextFault}
 use Rattle.gimple_syntax.specs.Reading.{read_of}
+use Rattle.gimple_print.specs.Canonical.{text_of}
+use Rattle.lto_object.specs.declared.fault.ObjectFault.{ObjectFault}
+use Rattle.lto_object.specs.Objects.{object_of}
+use Rattle.lto_object.specs.ObjectReading.{read_of as read_object_of}
 use Rattle.rv64_meaning.specs.Machine.{Outcome}
 use Rattle.rv64_meaning.specs.Laws.{output_of}
 use Rattle.rv64_meaning.specs.Loading.{load_fault_of, run_of}
 use Rattle.first_form.specs.Form.{IsUnbuilt}
 use Rattle.first_form.specs.Compiled.{IsImageOf}
-use Rattle.whopr_words.specs.Commands.{Spoken, Cc, Run}
-use Rattle.whopr_top.specs.Lines.{line, outcome_line, text_line}
+use Rattle.whopr_words.specs.Commands.{Spoken, Cc, Lgen, Show, Run}
+use Rattle.whopr_top.specs.Lines.{line, outcome_line, text_line, object_line}
 
 -- a file that is written: its name and its bytes
 abbrev pub File : Type 0
@@ -31,6 +35,16 @@ abbrev pub JudgesText : (output text : List ℕ) → Result Module TextFault →
 JudgesText output text (Ok source) judgement = JudgesForm output text judgement
 JudgesText output text (Err fault) judgement = judgement ≡ Refuses 9 (text_line fault.line fault.kind)
 
+-- `lgen`: the object of the module that the text is read to
+abbrev pub lgen_by : List ℕ → Result Module TextFault → Judgement
+lgen_by output (Ok source) = Gives ((output, object_of source) ∷ []) []
+lgen_by output (Err fault) = Refuses 9 (text_line fault.line fault.kind)
+
+-- `show`: the canonical text of the module that the object is read to; it is the command's only object
+abbrev pub show_by : Result Module ObjectFault → Judgement
+show_by (Ok source) = Gives [] (text_of source)
+show_by (Err fault) = Refuses 3 (object_line 0 fault)
+
 -- `run`: the image is run, if it can be loaded
 abbrev pub run_by : List ℕ → Option ℕ → Outcome → Judgement
 run_by output (Some offset) outcome = Refuses 11 (line (codes "11 image " ++ decimal offset))
@@ -38,5 +52,7 @@ run_by output None outcome = Gives ((output, output_of outcome) ∷ []) (outcome
 
 abbrev pub Judges : Spoken → List (List ℕ) → Judgement → Type 0
 Judges (Cc input output) (text ∷ []) judgement = JudgesText output text (read_of text) judgement
+Judges (Lgen input output) (text ∷ []) judgement = judgement ≡ lgen_by output (read_of text)
+Judges (Show object) (bytes ∷ []) judgement = judgement ≡ show_by (read_object_of bytes)
 Judges (Run image steps input output) (bytes ∷ given ∷ []) judgement = judgement ≡ run_by output (load_fault_of bytes) (run_of bytes given steps)
 Judges command contents judgement = ⊥

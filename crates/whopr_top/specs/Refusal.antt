@@ -3,12 +3,13 @@ use Rattle.std.specs.Prelude.{◌≡◌, ◌⊎◌, ℕ, List, [], ◌∷◌, �
 use Rattle.std.specs.declared.alloc.Global.{Global}
 use Rattle.outer_files.specs.Outside.{Known}
 use Rattle.whopr_top.specs.declared.refusal.Refusal.{Refusal}
-use Rattle.whopr_top.specs.declared.refusal.Refusal.TheVariants.{NoCommand, TooLong, Read, Write, Memory, Text, Image, Unbuilt}
-use Rattle.whopr_top.specs.Lines.{line, text_line}
+use Rattle.whopr_top.specs.declared.refusal.Refusal.TheVariants.{NoCommand, Object, TooLong, Read, Write, Memory, Text, Image, Unbuilt}
+use Rattle.whopr_top.specs.Lines.{line, text_line, object_line}
 use Rattle.whopr_top.specs.Answers.{Puts}
 
 abbrev pub status_of : Refusal → ℕ
 status_of NoCommand = 2
+status_of (Object number fault) = 3
 status_of TooLong = 4
 status_of (Read name) = 5
 status_of (Write name) = 6
@@ -19,6 +20,7 @@ status_of Unbuilt = 13
 
 abbrev pub refusal_line : Refusal → List ℕ
 refusal_line NoCommand = line (codes "2 words")
+refusal_line (Object number fault) = object_line number fault
 refusal_line TooLong = line (codes "4 limit FileBytes 16777217 16777216")
 refusal_line (Read name) = line (codes "5 read " ++ name.now)
 refusal_line (Write name) = line (codes "6 write " ++ name.now)

@@ -1,15 +1,17 @@
 // What a command does before it prints anything: its reads, its work and its writes. What it gives is the text that is printed.
 ghost use Rattle.std.specs.Prelude.{◌≡◌, [], Some, IfOk};
-ghost use Rattle.whopr_words.specs.Commands.{Cc, Run, words_of, command_of};
+ghost use Rattle.whopr_words.specs.Commands.{Cc, Lgen, Show, Run, words_of, command_of};
 ghost use Rattle.whopr_top.specs.Answers.{IsQuiet};
 ghost use Rattle.whopr_top.specs.Attempts.{Attempt, Counted, Lined, Judged};
 ghost use Rattle.whopr_top.specs.Refusal.{answer_of, text_of};
 
+use crate::objects::{object_of, shown};
 use crate::refusal::Refusal;
 use crate::running::run_image;
 use crate::top::FILE_BYTES;
 use first_form::{FormFault, compile};
 use gimple_syntax::{TextError, read_module};
+use lto_object::ObjectError;
 use outer_files::{FileStore, ReadFault, WriteFault};
 use rv64_meaning::LoadError;
 use std::alloc::Global;
@@ -29,6 +31,8 @@ pub fn attempt<'a, F: FileStore>(
 {
     match read_words(words) {
         Some(Command::Cc { input, out }) => cc(alloc, input, out, files),
+        Some(Command::Lgen { input, out }) => lgen(alloc, input, out, files),
+        Some(Command::Show { object }) => show(alloc, object, files),
         Some(
             Command::Run {
                 image,
@@ -74,6 +78,65 @@ fn cc<'a, F: FileStore>(
         Ok(()) => Ok(Vec::new(alloc)),
         Err(WriteFault::Failed) => Err(Refusal::Write(out)),
         Err(WriteFault::NoMemory) => Err(Refusal::Memory),
+    }
+}
+
+// Writes the object of a text.
+fn lgen<'a, F: FileStore>(
+    alloc: Global,
+    input: &'a str,
+    out: &'a str,
+    files: &mut F,
+) -> Result<Vec<u8>, Refusal<'a>>
+    ensures quiet { IfOk result (λ text. IsQuiet (Some (Lgen input.now out.now)) → text.items ≡ []) }
+    ensures attempt { Attempt FILE_BYTES (Some (Lgen input.now out.now)) (F.held files.old) (F.held files.new) (answer_of result) }
+    ensures counted { Counted (F.faults files.old) (F.faults files.new) (answer_of result) }
+    ensures lined { Lined FILE_BYTES (Some (Lgen input.now out.now)) (F.held files.old) (answer_of result) (text_of result) }
+    ensures judged { Judged FILE_BYTES (Some (Lgen input.now out.now)) (F.held files.old) (F.held files.new) (F.faults files.old) (F.faults files.new) (answer_of result) (text_of result) }
+{
+    let text = match files.read_all(alloc, input, FILE_BYTES) {
+        Ok(text) => text,
+        Err(ReadFault::Failed) => return Err(Refusal::Read(input)),
+        Err(ReadFault::TooLong) => return Err(Refusal::TooLong),
+        Err(ReadFault::NoMemory) => return Err(Refusal::Memory),
+    };
+    let source = match read_module(alloc, &text) {
+        Ok(source) => source,
+        Err(TextError::Fault(fault)) => return Err(Refusal::Text(fault.line, fault.kind)),
+        Err(TextError::NoMemory) => return Err(Refusal::Memory),
+    };
+    let Ok(object) = object_of(alloc, &text, &source) else {
+        return Err(Refusal::Memory);
+    };
+    match files.write_all(out, &object) {
+        Ok(()) => Ok(Vec::new(alloc)),
+        Err(WriteFault::Failed) => Err(Refusal::Write(out)),
+        Err(WriteFault::NoMemory) => Err(Refusal::Memory),
+    }
+}
+
+// Gives the text of an object's module.
+fn show<'a, F: FileStore>(
+    alloc: Global,
+    object: &'a str,
+    files: &mut F,
+) -> Result<Vec<u8>, Refusal<'a>>
+    ensures quiet { IfOk result (λ text. IsQuiet (Some (Show object.now)) → text.items ≡ []) }
+    ensures attempt { Attempt FILE_BYTES (Some (Show object.now)) (F.held files.old) (F.held files.new) (answer_of result) }
+    ensures counted { Counted (F.faults files.old) (F.faults files.new) (answer_of result) }
+    ensures lined { Lined FILE_BYTES (Some (Show object.now)) (F.held files.old) (answer_of result) (text_of result) }
+    ensures judged { Judged FILE_BYTES (Some (Show object.now)) (F.held files.old) (F.held files.new) (F.faults files.old) (F.faults files.new) (answer_of result) (text_of result) }
+{
+    let bytes = match files.read_all(alloc, object, FILE_BYTES) {
+        Ok(bytes) => bytes,
+        Err(ReadFault::Failed) => return Err(Refusal::Read(object)),
+        Err(ReadFault::TooLong) => return Err(Refusal::TooLong),
+        Err(ReadFault::NoMemory) => return Err(Refusal::Memory),
+    };
+    match shown(alloc, &bytes) {
+        Ok(text) => Ok(text),
+        Err(ObjectError::Fault(fault)) => Err(Refusal::Object(0, fault)),
+        Err(ObjectError::NoMemory) => Err(Refusal::Memory),
     }
 }
 

@@ -7,6 +7,7 @@
 
 mod attempt;
 mod lines;
+mod objects;
 mod refusal;
 mod report;
 mod running;

@@ -2,8 +2,9 @@
 ghost use Rattle.std.specs.Prelude.{◌≡◌, IfOk, string_bytes};
 ghost use Rattle.whopr_top.specs.Refusal.{status_of, refusal_line};
 
-use crate::lines::text_line;
+use crate::lines::{object_line, text_line};
 use gimple_syntax::TextKind;
+use lto_object::ObjectFault;
 use std::alloc::{AllocError, Global};
 
 /// Why a command was refused. One variant a status.
@@ -11,6 +12,8 @@ use std::alloc::{AllocError, Global};
 pub enum Refusal<'a> {
     /// 2: the words are no command.
     NoCommand,
+    /// 3: the object with this number among those of the command has a fault; its first.
+    Object(u32, ObjectFault),
     /// 4: a file that is read is longer than 16 MiB.
     TooLong,
     /// 5: this file could not be read.
@@ -34,6 +37,7 @@ impl Refusal<'_> {
     {
         match self {
             Refusal::NoCommand => 2,
+            Refusal::Object(_, _) => 3,
             Refusal::TooLong => 4,
             Refusal::Read(_) => 5,
             Refusal::Write(_) => 6,
@@ -51,6 +55,7 @@ pub fn refusal_line(alloc: Global, refusal: Refusal<'_>) -> Result<String, Alloc
 {
     match refusal {
         Refusal::NoCommand => format!(in alloc; "2 words\n"),
+        Refusal::Object(number, fault) => object_line(alloc, number, &fault),
         Refusal::TooLong => format!(in alloc; "4 limit FileBytes 16777217 16777216\n"),
         Refusal::Read(name) => format!(in alloc; "5 read {name}\n"),
         Refusal::Write(name) => format!(in alloc; "6 write {name}\n"),

@@ -1,24 +1,26 @@
--- What a command came to: one lemma where it is refused, where its file is written, and where the write is cut short.
-use Rattle.std.proofs.Common.{◌≡◌, ◌≢◌, ℕ, List, [], ◌∷◌, Option, Some, None, Result, Ok, Err, Bool, true, false, true≢false, ◌∙◌, refl, sym, ap, inl, inr, arith, ◌⊎◌, ◌≤◌, length, subst}
-use Rattle.std.specs.Prelude.{IfSome, IsSomeAnd, ◌++◌, codes, decimal}
-use Rattle.std.specs.Option.{ForSome}
-use Rattle.std.proofs.lemmas.Grind.{common_steps}
+-- What a command came to: one lemma where it is refused, where its files are written, and where a write is cut short.
+use Rattle.std.proofs.Common.{◌≡◌, ◌≢◌, ℕ, List, [], ◌∷◌, Option, Some, None, Result, Ok, Err, refl, sym, inl, arith, ◌≤◌, length, subst}
+use Rattle.std.specs.Prelude.{IfSome, ◌++◌, codes, decimal}
 use Rattle.outer_files.specs.Outside.{Contents, WhereTold, Writes, WritesPrefix, Rose}
 use Rattle.gimple_ir.specs.declared.types.Module.{Module}
 use Rattle.gimple_syntax.specs.declared.text.TextFault.{TextFault}
 use Rattle.gimple_syntax.specs.Reading.{read_of}
-use Rattle.whopr_words.specs.Commands.{Spoken, Cc, Run}
+use Rattle.lto_object.specs.declared.fault.ObjectFault.{ObjectFault}
+use Rattle.lto_object.specs.Objects.{object_of}
+use Rattle.lto_object.specs.ObjectReading.{read_of as read_object_of}
+use Rattle.whopr_words.specs.Commands.{Spoken, Cc, Lgen, Show, Run}
 use Rattle.rv64_meaning.specs.Laws.{output_of}
 use Rattle.rv64_meaning.specs.Loading.{load_fault_of, run_of}
 use Rattle.follow_laws.specs.Follows.{Follows}
 use Rattle.first_form.specs.declared.form.FirstForm.{FirstForm}
 use Rattle.first_form.specs.Form.{Spells}
-use Rattle.first_form.specs.Compiled.{FollowsText}
+use Rattle.first_form.specs.Compiled.{FollowsText, IsImageOf}
 use Rattle.first_form.specs.Source.{program_of}
-use Rattle.whopr_top.specs.Reads.{reads_of, written_name, AreHeld}
-use Rattle.whopr_top.specs.Judgements.{Judgement, Refuses, Gives, Judges, JudgesForm, JudgesText, run_by, line, text_line, outcome_line}
-use Rattle.whopr_top.specs.Outputs.{IsJudged, IsRefused, IsDone, IsCutShort, Done, Faithful, IsFaithful, CutShort, Refused, IsValid}
-use Rattle.whopr_top.specs.Answers.{Exactly, is_judged}
+use Rattle.whopr_top.specs.Reads.{reads_of, AreHeld}
+use Rattle.whopr_top.specs.Lines.{line, text_line, object_line, outcome_line}
+use Rattle.whopr_top.specs.Judgements.{File, Judgement, Refuses, Gives, Judges, JudgesForm, JudgesText, lgen_by, show_by, run_by}
+use Rattle.whopr_top.specs.Outputs.{IsJudged, IsRefused, IsDone, IsCutShort, WritesAll, CutsShort, Faithful, IsFaithful, Refused, IsValid}
+use Rattle.whopr_top.specs.Answers.{Exactly}
 use Rattle.whopr_top.specs.Attempts.{Judged}
 
 -- a store holds one list of contents
@@ -30,80 +32,61 @@ same_contents limit held (name ∷ names) [] ds a b = absurd a
 same_contents limit held (name ∷ names) (c ∷ cs) [] a b = absurd b
 same_contents limit held (name ∷ names) (c ∷ cs) (d ∷ ds) a b = grind (arith, a.0, b.0, same_contents limit held names cs ds a.2 b.2)
 
--- ---- the judgement of `cc`
+-- ---- a command is not both refused and done, and is refused with one status
 
-status_in : Judgement → ℕ
-status_in (Refuses status reason) = status
-status_in (Gives written text) = 0
+abbrev Alike : Judgement → Judgement → Type 0
+Alike (Refuses s x) (Refuses t y) = s ≡ t
+Alike (Refuses s x) (Gives w y) = ⊥
+Alike (Gives w x) (Refuses t y) = ⊥
+Alike (Gives w x) (Gives v y) = Unit {0}
 
-one_status_of : (text : List ℕ) (r : Result Module TextFault) (s t : ℕ) (x y : List ℕ) → JudgesText text r (Refuses s x) → JudgesText text r (Refuses t y) → s ≡ t
-unfolding status_in
-one_status_of text (Ok source) s t x y a b = grind (arith, a.0, b.0)
-one_status_of text (Err fault) s t x y a b = ap status_in a ∙ sym (ap status_in b)
+alike_self : (a : Judgement) → Alike a a
+alike_self (Refuses s x) = refl
+alike_self (Gives w x) = tt
 
-is_refused : Judgement → Bool
-is_refused (Refuses status reason) = true
-is_refused (Gives written text) = false
+alike_to : (a b c : Judgement) → a ≡ c → b ≡ c → Alike a b
+alike_to a b c e f = subst (λ (x : Judgement). Alike x b) (sym e) (subst (λ (y : Judgement). Alike c y) (sym f) (alike_self c))
 
-never_both_of : (text : List ℕ) (r : Result Module TextFault) (s : ℕ) (x w y : List ℕ) → JudgesText text r (Refuses s x) → JudgesText text r (Gives w y) → ⊥
-unfolding is_refused
-never_both_of text (Ok source) s x w y a b = a.2 b.0.program b.0.spelled
-never_both_of text (Err fault) s x w y a b = true≢false (sym (ap is_refused b))
+alike_texts : (output text : List ℕ) (r : Result Module TextFault) (a b : Judgement) → JudgesText output text r a → JudgesText output text r b → Alike a b
+alike_texts output text (Err fault) a b h k = alike_to a b (Refuses 9 (text_line fault.line fault.kind)) h k
+alike_texts output text (Ok source) (Refuses s x) (Refuses t y) h k = grind (arith, h.0, k.0)
+alike_texts output text (Ok source) (Refuses s x) (Gives w y) h k = h.2 k.1.program k.1.spelled
+alike_texts output text (Ok source) (Gives w x) (Refuses t y) h k = k.2 h.1.program h.1.spelled
+alike_texts output text (Ok source) (Gives w x) (Gives v y) h k = tt
 
-by_fault : (text : List ℕ) (r : Result Module TextFault) (fault : TextFault) → r ≡ Err fault → JudgesText text r (Refuses 9 (text_line fault.line fault.kind))
-by_fault text r fault e = subst (λ r. JudgesText text r (Refuses 9 (text_line fault.line fault.kind))) (sym e) refl
+alike : (command : Spoken) (cs : List (List ℕ)) (a b : Judgement) → Judges command cs a → Judges command cs b → Alike a b
+alike (Cc input output) (text ∷ []) a b h k = alike_texts output text (read_of text) a b h k
+alike (Lgen input output) (text ∷ []) a b h k = alike_to a b (lgen_by output (read_of text)) h k
+alike (Show object) (bytes ∷ []) a b h k = alike_to a b (show_by (read_object_of bytes)) h k
+alike (Run image steps input output) (bytes ∷ given ∷ []) a b h k = alike_to a b (run_by output (load_fault_of bytes) (run_of bytes given steps)) h k
+alike command contents a b h k = absurd h
 
-pub text_faults : (text : List ℕ) (fault : TextFault) → read_of text ≡ Err fault → JudgesText text (read_of text) (Refuses 9 (text_line fault.line fault.kind))
-text_faults text fault e = by_fault text (read_of text) fault e
+-- the same of what is held
+held_alike : (limit : ℕ) (held : Contents) (command : Spoken) (cs ds : List (List ℕ)) (a b : Judgement) → AreHeld limit held (reads_of command) cs
+    → AreHeld limit held (reads_of command) ds → Judges command cs a → Judges command ds b → Alike a b
+held_alike limit held command cs ds a b read other h k =
+    alike command cs a b h (subst (λ (c : List (List ℕ)). Judges command c b) (sym (same_contents limit held (reads_of command) cs ds read other)) k)
 
-pub text_judged : (text : List ℕ) (source : Module) (judgement : Judgement) → read_of text ≡ Ok source → JudgesForm text judgement → JudgesText text (read_of text) judgement
-text_judged text source judgement e h = subst (λ r. JudgesText text r judgement) (sym e) h
+-- a command that is refused with a status is refused with no other
+exactly_refused : (limit : ℕ) (held : Contents) (command : Spoken) (cs : List (List ℕ)) (s n : ℕ) (x : List ℕ) → AreHeld limit held (reads_of command) cs
+    → Judges command cs (Refuses s x) → Exactly n s (Refused n limit held (Some command))
+exactly_refused limit held command cs s n x read judged = record {
+  only = λ is. (x, record { contents = cs; read = read; judged = subst (λ (n : ℕ). Judges command cs (Refuses n x)) is judged });
+  always = λ other. inl (held_alike limit held command cs other.1.contents (Refuses s x) (Refuses n other.0) read other.1.read judged other.1.judged);
+}
 
-gives_form_of : (text : List ℕ) (r : Result Module TextFault) (w x : List ℕ) → JudgesText text r (Gives w x) → JudgesForm text (Gives w x)
-unfolding is_refused
-gives_form_of text (Ok source) w x h = h
-gives_form_of text (Err fault) w x h = absurd (true≢false (sym (ap is_refused h)))
-
-gives_form : (text : List ℕ) (w x : List ℕ) → JudgesText text (read_of text) (Gives w x) → JudgesForm text (Gives w x)
-gives_form text w x h = gives_form_of text (read_of text) w x h
-
--- a refusal has one status, and no command is both refused and done
-one_status : (command : Spoken) (cs : List (List ℕ)) (s t : ℕ) (x y : List ℕ) → Judges command cs (Refuses s x) → Judges command cs (Refuses t y) → s ≡ t
-one_status (Cc input output) [] s t x y a b = absurd a
-one_status (Cc input output) (text ∷ []) s t x y a b = one_status_of text (read_of text) s t x y a b
-one_status (Cc input output) (text ∷ other ∷ more) s t x y a b = absurd a
-one_status (Run image steps input output) [] s t x y a b = absurd a
-one_status (Run image steps input output) (bytes ∷ []) s t x y a b = absurd a
-one_status (Run image steps input output) (bytes ∷ given ∷ []) s t x y a b = grind (arith, a, b)
-one_status (Run image steps input output) (bytes ∷ given ∷ other ∷ more) s t x y a b = absurd a
-
-never_both : (command : Spoken) (cs : List (List ℕ)) (s : ℕ) (x w y : List ℕ) → Judges command cs (Refuses s x) → Judges command cs (Gives w y) → ⊥
-never_both (Cc input output) [] s x w y a b = a
-never_both (Cc input output) (text ∷ []) s x w y a b = never_both_of text (read_of text) s x w y a b
-never_both (Cc input output) (text ∷ other ∷ more) s x w y a b = a
-never_both (Run image steps input output) [] s x w y a b = a
-never_both (Run image steps input output) (bytes ∷ []) s x w y a b = a
-never_both (Run image steps input output) (bytes ∷ given ∷ []) s x w y a b = grind (arith, a, b)
-never_both (Run image steps input output) (bytes ∷ given ∷ other ∷ more) s x w y a b = a
-
--- the same for what is held
-held_status : (limit : ℕ) (held : Contents) (command : Spoken) (cs : List (List ℕ)) (s t : ℕ) (x : List ℕ) → AreHeld limit held (reads_of command) cs
-    → Judges command cs (Refuses s x) → Refused t limit held (Some command) → s ≡ t
-held_status limit held command cs s t x read judged other =
-    one_status command cs s t x other.0 judged (rw (same_contents limit held (reads_of command) cs other.1.contents read other.1.read) other.1.judged)
+-- a command that gives something is not refused
+exactly_other : (limit : ℕ) (held : Contents) (command : Spoken) (cs : List (List ℕ)) (s n : ℕ) (w : List File) (x : List ℕ) → s ≢ n → AreHeld limit held (reads_of command) cs
+    → Judges command cs (Gives w x) → Exactly n s (Refused n limit held (Some command))
+exactly_other limit held command cs s n w x differs read judged = record {
+  only = λ is. absurd (differs is);
+  always = λ other. absurd (held_alike limit held command cs other.1.contents (Gives w x) (Refuses n other.0) read other.1.read judged other.1.judged);
+}
 
 held_refused : (limit : ℕ) (held : Contents) (command : Spoken) (cs : List (List ℕ)) (s : ℕ) (x : List ℕ) → AreHeld limit held (reads_of command) cs
     → Judges command cs (Refuses s x) → IsValid limit held (Some command) → ⊥
 held_refused limit held command cs s x read judged valid =
-    never_both command cs s x valid.0 valid.1 judged (rw (same_contents limit held (reads_of command) cs valid.2.contents read valid.2.read) valid.2.judged)
-
-held_given : (limit : ℕ) (held : Contents) (command : Spoken) (cs : List (List ℕ)) (w y : List ℕ) (s : ℕ) → AreHeld limit held (reads_of command) cs
-    → Judges command cs (Gives w y) → Refused s limit held (Some command) → ⊥
-held_given limit held command cs w y s read judged refused =
-    never_both command cs s refused.0 w y (rw (same_contents limit held (reads_of command) cs refused.1.contents read refused.1.read) refused.1.judged) judged
-
-exactly_other : (s t : ℕ) (cause : Type 0) → (t ≡ s → ⊥) → (cause → ⊥) → Exactly s t cause
-exactly_other s t cause differs never = record { only = λ is. absurd (differs is); always = λ c. absurd (never c) }
+    held_alike limit held command cs valid.2.contents (Refuses s x) (Gives valid.0 valid.1) read valid.2.read judged valid.2.judged
 
 -- ---- of what is told
 
@@ -121,6 +104,12 @@ told_with P Q R None (Some y) f p q = q
 told_with P Q R (Some x) None f p q = q
 told_with P Q R (Some x) (Some y) f p q = f x y p q
 
+told_both : {A : Type 0} (Q R : A → A → Type 0) (a b : Option A) → ((x y : A) → Q x y → R x y) → WhereTold a b Q → WhereTold a b R
+told_both Q R None None f q = tt
+told_both Q R None (Some y) f q = q
+told_both Q R (Some x) None f q = q
+told_both Q R (Some x) (Some y) f q = f x y q
+
 -- ---- reads
 
 pub one_read : (limit : ℕ) (old : Option Contents) (name bytes : List ℕ) → IfSome old (λ held. held name ≡ Some bytes) → length bytes ≤ limit
@@ -133,32 +122,55 @@ two_reads limit None between first second name bytes same is within too fits = t
 two_reads limit (Some held) between first second name bytes same is within too fits =
     (is, within, (subst (λ (o : Option Contents). IfSome o (λ held. held name ≡ Some bytes)) same too, fits, tt))
 
+-- ---- writes
+
+stands : (old : Option Contents) → WhereTold old old (WritesAll [])
+stands None = tt
+stands (Some held) = refl
+
+pub none_written : (old new : Option Contents) → new ≡ old → WhereTold old new (WritesAll [])
+none_written old new same = subst (λ (o : Option Contents). WhereTold old o (WritesAll [])) (sym same) (stands old)
+
+pub one_written : (old new : Option Contents) (name bytes : List ℕ) → WhereTold old new (Writes name bytes) → WhereTold old new (WritesAll ((name, bytes) ∷ []))
+one_written old new name bytes writes = told_both (Writes name bytes) (WritesAll ((name, bytes) ∷ [])) old new (λ held then w. (then, w, refl)) writes
+
+pub one_cut_short : (old new : Option Contents) (name bytes : List ℕ) → WhereTold old new (WritesPrefix name bytes) → WhereTold old new (CutsShort ((name, bytes) ∷ []))
+one_cut_short old new name bytes writes = told_both (WritesPrefix name bytes) (CutsShort ((name, bytes) ∷ [])) old new (λ held then w. inl w) writes
+
+the_one : (old new : Contents) (name bytes : List ℕ) → WritesAll ((name, bytes) ∷ []) old new → Writes name bytes old new
+the_one old new name bytes (between, writes, same) = subst (λ (c : Contents). Writes name bytes old c) (sym same) writes
+
 -- ---- the image of a text that was compiled
+
+given_form : (output text : List ℕ) (r : Result Module TextFault) (w : List File) (x : List ℕ) → JudgesText output text r (Gives w x) → JudgesForm output text (Gives w x)
+given_form output text (Ok source) w x h = h
+given_form output text (Err fault) w x h = absurd (alike_to (Gives w x) (Refuses 9 (text_line fault.line fault.kind)) (Refuses 9 (text_line fault.line fault.kind)) h refl)
 
 follows_it : (text image : List ℕ) (form : FirstForm) → FollowsText text image → Spells text form → Follows image (program_of form)
 unfolding FollowsText
 follows_it text image form each spelled = each form spelled
 
-faithful_text : (limit : ℕ) (input output : List ℕ) (old new : Contents) (w x : List ℕ) (cs : List (List ℕ)) → AreHeld limit old (input ∷ []) cs
-    → Judges (Cc input output) cs (Gives w x) → Writes output w old new → IsFaithful input output old new
-faithful_text limit input output old new w x [] read judged writes = absurd read
-faithful_text limit input output old new w x (text ∷ []) read judged writes =
-    let formed = gives_form text w x judged in
-    record {
-      text = text;
-      image = w;
-      form = formed.0.program;
-      held = read.0;
-      spelled = formed.0.spelled;
-      written = writes.written;
-      loads = formed.0.loads;
-      follows = follows_it text w formed.0.program formed.0.follows formed.0.spelled;
-    }
-faithful_text limit input output old new w x (text ∷ other ∷ more) read judged writes = absurd read.2
+faithful_text : (limit : ℕ) (input output text : List ℕ) (old new : Contents) (w : List File) (x : List ℕ) → old input ≡ Some text
+    → JudgesForm output text (Gives w x) → WritesAll w old new → IsFaithful input output old new
+faithful_text limit input output text old new w x held (image, is_image, one, none) writes = record {
+  text = text;
+  image = image;
+  form = is_image.program;
+  held = held;
+  spelled = is_image.spelled;
+  written = (the_one old new output image (subst (λ (files : List File). WritesAll files old new) one writes)).written;
+  loads = is_image.loads;
+  follows = follows_it text image is_image.program is_image.follows is_image.spelled;
+}
 
-faithful : (limit : ℕ) (command : Spoken) (old new : Contents) (w x : List ℕ) (cs : List (List ℕ)) → AreHeld limit old (reads_of command) cs
-    → Judges command cs (Gives w x) → Writes (written_name command) w old new → Faithful (Some command) old new
-faithful limit (Cc input output) old new w x cs read judged writes = faithful_text limit input output old new w x cs read judged writes
+faithful : (limit : ℕ) (command : Spoken) (old new : Contents) (w : List File) (x : List ℕ) (cs : List (List ℕ)) → AreHeld limit old (reads_of command) cs
+    → Judges command cs (Gives w x) → WritesAll w old new → Faithful (Some command) old new
+faithful limit (Cc input output) old new w x [] read judged writes = absurd read
+faithful limit (Cc input output) old new w x (text ∷ []) read judged writes =
+    faithful_text limit input output text old new w x read.0 (given_form output text (read_of text) w x judged) writes
+faithful limit (Cc input output) old new w x (text ∷ other ∷ more) read judged writes = absurd read.2
+faithful limit (Lgen input output) old new w x cs read judged writes = tt
+faithful limit (Show object) old new w x cs read judged writes = tt
 faithful limit (Run image steps input output) old new w x cs read judged writes = tt
 
 -- ---- what the command came to
@@ -167,11 +179,11 @@ pub refused : (limit : ℕ) (command : Spoken) (old new : Option Contents) (befo
     → IfSome old (λ held. AreHeld limit held (reads_of command) cs) → Judges command cs (Refuses s x) → Judged limit (Some command) old new before now s x
 refused limit command old new before now s x cs not_0 not_6 read judged =
     let at = λ (held : Contents) (told : old ≡ Some held). told_at (λ held. AreHeld limit held (reads_of command) cs) old held read told in
-    let with = λ (n : ℕ) (is : s ≡ n). subst (λ (n : ℕ). Judges command cs (Refuses n x)) is judged in
     record {
-      spelled = λ held told _. record { only = λ is. (x, record { contents = cs; read = at held told; judged = with 9 is }); always = λ other. inl (held_status limit held command cs s 9 x (at held told) judged other) };
-      image = λ held told _. record { only = λ is. (x, record { contents = cs; read = at held told; judged = with 11 is }); always = λ other. inl (held_status limit held command cs s 11 x (at held told) judged other) };
-      unbuilt = λ held told _. record { only = λ is. (x, record { contents = cs; read = at held told; judged = with 13 is }); always = λ other. inl (held_status limit held command cs s 13 x (at held told) judged other) };
+      object = λ held told _. exactly_refused limit held command cs s 3 x (at held told) judged;
+      spelled = λ held told _. exactly_refused limit held command cs s 9 x (at held told) judged;
+      image = λ held told _. exactly_refused limit held command cs s 11 x (at held told) judged;
+      unbuilt = λ held told _. exactly_refused limit held command cs s 13 x (at held told) judged;
       complete = λ held told valid _. absurd (held_refused limit held command cs s x (at held told) judged valid);
       done = λ is. absurd (not_0 is);
       follows = λ is. absurd (not_0 is);
@@ -180,52 +192,79 @@ refused limit command old new before now s x cs not_0 not_6 read judged =
       refused_line = λ _. told_map (λ held. AreHeld limit held (reads_of command) cs) (λ held. IsRefused limit command held s x) old (λ held h. record { contents = cs; read = h; judged = judged }) read;
     }
 
-pub done : (limit : ℕ) (command : Spoken) (old between new : Option Contents) (before now : ℕ) (w x : List ℕ) (cs : List (List ℕ)) → between ≡ old
-    → IfSome old (λ held. AreHeld limit held (reads_of command) cs) → Judges command cs (Gives w x) → WhereTold between new (Writes (written_name command) w)
+pub done : (limit : ℕ) (command : Spoken) (old between new : Option Contents) (before now : ℕ) (w : List File) (x : List ℕ) (cs : List (List ℕ)) → between ≡ old
+    → IfSome old (λ held. AreHeld limit held (reads_of command) cs) → Judges command cs (Gives w x) → WhereTold between new (WritesAll w)
     → Judged limit (Some command) old new before now 0 x
 done limit command old between new before now w x cs same read judged writes =
     let at = λ (held : Contents) (told : old ≡ Some held). told_at (λ held. AreHeld limit held (reads_of command) cs) old held read told in
+    let then = subst (λ (o : Option Contents). WhereTold o new (WritesAll w)) same writes in
     record {
-      spelled = λ held told _. exactly_other 9 0 (Refused 9 limit held (Some command)) (λ is. grind (arith, is)) (held_given limit held command cs w x 9 (at held told) judged);
-      image = λ held told _. exactly_other 11 0 (Refused 11 limit held (Some command)) (λ is. grind (arith, is)) (held_given limit held command cs w x 11 (at held told) judged);
-      unbuilt = λ held told _. exactly_other 13 0 (Refused 13 limit held (Some command)) (λ is. grind (arith, is)) (held_given limit held command cs w x 13 (at held told) judged);
+      object = λ held told _. exactly_other limit held command cs 0 3 w x (λ is. grind (arith, is)) (at held told) judged;
+      spelled = λ held told _. exactly_other limit held command cs 0 9 w x (λ is. grind (arith, is)) (at held told) judged;
+      image = λ held told _. exactly_other limit held command cs 0 11 w x (λ is. grind (arith, is)) (at held told) judged;
+      unbuilt = λ held told _. exactly_other limit held command cs 0 13 w x (λ is. grind (arith, is)) (at held told) judged;
       complete = λ held told valid _. inl refl;
-      done = λ _. told_with (λ held. AreHeld limit held (reads_of command) cs) (Writes (written_name command) w) (IsDone limit command) old new
-          (λ held then h write. record { written = w; text = x; judged = record { contents = cs; read = h; judged = judged }; writes = write })
-          read (subst (λ (o : Option Contents). WhereTold o new (Writes (written_name command) w)) same writes);
-      follows = λ _. told_with (λ held. AreHeld limit held (reads_of command) cs) (Writes (written_name command) w) (Faithful (Some command)) old new
-          (λ held then h write. faithful limit command held then w x cs h judged write)
-          read (subst (λ (o : Option Contents). WhereTold o new (Writes (written_name command) w)) same writes);
+      done = λ _. told_with (λ held. AreHeld limit held (reads_of command) cs) (WritesAll w) (IsDone limit command) old new
+          (λ held then h write. record { written = w; text = x; judged = record { contents = cs; read = h; judged = judged }; writes = write }) read then;
+      follows = λ _. told_with (λ held. AreHeld limit held (reads_of command) cs) (WritesAll w) (Faithful (Some command)) old new
+          (λ held then h write. faithful limit command held then w x cs h judged write) read then;
       cut_short = λ is. grind (arith, is);
-      done_line = λ _. told_map (λ held. AreHeld limit held (reads_of command) cs) (λ held. (written : List ℕ) × IsJudged limit command held written x) old (λ held h. (w, record { contents = cs; read = h; judged = judged })) read;
+      done_line = λ _. told_map (λ held. AreHeld limit held (reads_of command) cs) (λ held. (written : List File) × IsJudged limit command held written x) old (λ held h. (w, record { contents = cs; read = h; judged = judged })) read;
       refused_line = λ is. grind (arith, is);
     }
 
-pub cut_short : (limit : ℕ) (command : Spoken) (old between new : Option Contents) (before now : ℕ) (w x y : List ℕ) (cs : List (List ℕ)) → between ≡ old
-    → IfSome old (λ held. AreHeld limit held (reads_of command) cs) → Judges command cs (Gives w x) → WhereTold between new (WritesPrefix (written_name command) w)
+pub cut_short : (limit : ℕ) (command : Spoken) (old between new : Option Contents) (before now : ℕ) (w : List File) (x y : List ℕ) (cs : List (List ℕ)) → between ≡ old
+    → IfSome old (λ held. AreHeld limit held (reads_of command) cs) → Judges command cs (Gives w x) → WhereTold between new (CutsShort w)
     → Rose before now → Judged limit (Some command) old new before now 6 y
 cut_short limit command old between new before now w x y cs same read judged writes rose =
     let at = λ (held : Contents) (told : old ≡ Some held). told_at (λ held. AreHeld limit held (reads_of command) cs) old held read told in
     record {
-      spelled = λ held told _. exactly_other 9 6 (Refused 9 limit held (Some command)) (λ is. grind (arith, is)) (held_given limit held command cs w x 9 (at held told) judged);
-      image = λ held told _. exactly_other 11 6 (Refused 11 limit held (Some command)) (λ is. grind (arith, is)) (held_given limit held command cs w x 11 (at held told) judged);
-      unbuilt = λ held told _. exactly_other 13 6 (Refused 13 limit held (Some command)) (λ is. grind (arith, is)) (held_given limit held command cs w x 13 (at held told) judged);
+      object = λ held told _. exactly_other limit held command cs 6 3 w x (λ is. grind (arith, is)) (at held told) judged;
+      spelled = λ held told _. exactly_other limit held command cs 6 9 w x (λ is. grind (arith, is)) (at held told) judged;
+      image = λ held told _. exactly_other limit held command cs 6 11 w x (λ is. grind (arith, is)) (at held told) judged;
+      unbuilt = λ held told _. exactly_other limit held command cs 6 13 w x (λ is. grind (arith, is)) (at held told) judged;
       complete = λ held told valid still. absurd (still rose);
       done = λ is. grind (arith, is);
       follows = λ is. grind (arith, is);
-      cut_short = λ _. told_with (λ held. AreHeld limit held (reads_of command) cs) (WritesPrefix (written_name command) w) (IsCutShort limit command) old new
+      cut_short = λ _. told_with (λ held. AreHeld limit held (reads_of command) cs) (CutsShort w) (IsCutShort limit command) old new
           (λ held then h write. record { written = w; text = x; judged = record { contents = cs; read = h; judged = judged }; writes = write })
-          read (subst (λ (o : Option Contents). WhereTold o new (WritesPrefix (written_name command) w)) same writes);
+          read (subst (λ (o : Option Contents). WhereTold o new (CutsShort w)) same writes);
       done_line = λ is. grind (arith, is);
       refused_line = λ is. grind (arith, is);
     }
 
+-- ---- the judgement of `cc`
+
+pub text_faults : (output text : List ℕ) (fault : TextFault) → read_of text ≡ Err fault → JudgesText output text (read_of text) (Refuses 9 (text_line fault.line fault.kind))
+text_faults output text fault e = subst (λ (r : Result Module TextFault). JudgesText output text r (Refuses 9 (text_line fault.line fault.kind))) (sym e) refl
+
+pub text_judged : (output text : List ℕ) (source : Module) (judgement : Judgement) → read_of text ≡ Ok source → JudgesForm output text judgement → JudgesText output text (read_of text) judgement
+text_judged output text source judgement e h = subst (λ (r : Result Module TextFault). JudgesText output text r judgement) (sym e) h
+
+pub image_given : (output text image printed : List ℕ) (source : Module) → read_of text ≡ Ok source → IsImageOf text image → printed ≡ []
+    → JudgesText output text (read_of text) (Gives ((output, image) ∷ []) printed)
+image_given output text image printed source e is_image none = text_judged output text source (Gives ((output, image) ∷ []) printed) e (image, is_image, refl, none)
+
+-- ---- the judgement of `lgen`
+
+pub lgen_faults : (output text : List ℕ) (fault : TextFault) → read_of text ≡ Err fault → Refuses 9 (text_line fault.line fault.kind) ≡ lgen_by output (read_of text)
+lgen_faults output text fault e = rw e refl
+
+pub lgen_gives : (output text written printed : List ℕ) (source : Module) → read_of text ≡ Ok source → written ≡ object_of source → printed ≡ []
+    → Gives ((output, written) ∷ []) printed ≡ lgen_by output (read_of text)
+lgen_gives output text written printed source e is none = rw (e, is, none) refl
+
+-- ---- the judgement of `show`
+
+pub show_faults : (bytes : List ℕ) (fault : ObjectFault) → read_object_of bytes ≡ Err fault → Refuses 3 (object_line 0 fault) ≡ show_by (read_object_of bytes)
+show_faults bytes fault e = rw e refl
+
 -- ---- the judgement of `run`
 
-pub run_faults : (bytes given : List ℕ) (steps offset : ℕ) → load_fault_of bytes ≡ Some offset
-    → Refuses 11 (line (codes "11 image " ++ decimal offset)) ≡ run_by (load_fault_of bytes) (run_of bytes given steps)
-run_faults bytes given steps offset is = rw is refl
+pub run_faults : (output bytes given : List ℕ) (steps offset : ℕ) → load_fault_of bytes ≡ Some offset
+    → Refuses 11 (line (codes "11 image " ++ decimal offset)) ≡ run_by output (load_fault_of bytes) (run_of bytes given steps)
+run_faults output bytes given steps offset is = rw is refl
 
-pub run_gives : (bytes given written text : List ℕ) (steps : ℕ) → load_fault_of bytes ≡ None → written ≡ output_of (run_of bytes given steps)
-    → text ≡ outcome_line (run_of bytes given steps) → Gives written text ≡ run_by (load_fault_of bytes) (run_of bytes given steps)
-run_gives bytes given written text steps none is says = rw (none, is, says) refl
+pub run_gives : (output bytes given written text : List ℕ) (steps : ℕ) → load_fault_of bytes ≡ None → written ≡ output_of (run_of bytes given steps)
+    → text ≡ outcome_line (run_of bytes given steps) → Gives ((output, written) ∷ []) text ≡ run_by output (load_fault_of bytes) (run_of bytes given steps)
+run_gives output bytes given written text steps none is says = rw (none, is, says) refl

@@ -1,20 +1,22 @@
 -- What was put, from what was reported.
-use Rattle.std.proofs.Common.{◌≡◌, ◌≢◌, ℕ, List, Option, refl, sym, subst, inl, inr, arith, ◌⊎◌}
-use Rattle.std.specs.Prelude.{IsSomeAnd}
-use Rattle.std.proofs.lemmas.Grind.{common_steps}
-use Rattle.outer_files.specs.Outside.{Contents, Known, TookPiece, Rose, RoseBy}
+use Rattle.std.proofs.Common.{◌≡◌, ◌≢◌, ℕ, List, [], ◌∷◌, Option, refl, sym, subst, inl, inr, arith, ◌⊎◌}
+use Rattle.std.specs.Prelude.{◌++◌, codes, decimal}
+use Rattle.outer_files.specs.Outside.{Contents, Known, Rose, RoseBy}
 use Rattle.whopr_words.specs.Commands.{Spoken}
-use Rattle.whopr_top.specs.Answers.{Exactly, lines_of, IsLine, PutsFault, PutsLine, after_fault, WasPut}
+use Rattle.whopr_top.specs.Lines.{line, kind_word, object_word, object_place}
+use Rattle.whopr_top.specs.Answers.{Exactly, lines_of, IsQuiet, IsLine, PutsFault, PutsLine, after_fault, WasPut}
 use Rattle.whopr_top.specs.Attempts.{Lined, Judged}
-use Rattle.whopr_top.specs.Refusal.{Reports, refusal_line, status_of}
+use Rattle.whopr_top.specs.Refusal.{Reports, Tells, refusal_line, status_of}
 use Rattle.whopr_top.specs.declared.refusal.Refusal.{Refusal}
-use Rattle.whopr_top.specs.declared.refusal.Refusal.TheVariants.{NoCommand, TooLong, Read, Write, Memory, Text, Image, Unbuilt}
+use Rattle.whopr_top.specs.declared.refusal.Refusal.TheVariants.{NoCommand, Object, TooLong, Read, Write, Memory, Text, Image, Unbuilt}
 
 line_is : (limit : ℕ) (held new : Option Contents) (command : Option Spoken) (before now status : ℕ) (text : List ℕ) → Lined limit command held status text
     → Judged limit command held new before now status text → IsLine limit held command status text
 line_is limit held new command before now status text lined judged = record {
   done = judged.done_line;
+  quiet = lined.quiet;
   words = lined.words;
+  object = lined.object;
   over = lined.over;
   read = lined.read;
   write = lined.write;
@@ -28,7 +30,9 @@ line_is limit held new command before now status text lined judged = record {
 memory_line : (limit : ℕ) (held : Option Contents) (command : Option Spoken) → IsLine limit held command 7 (refusal_line Memory)
 memory_line limit held command = record {
   done = λ is. grind (arith, is);
+  quiet = λ is. grind (arith, is);
   words = λ is. grind (arith, is);
+  object = λ is. grind (arith, is);
   over = λ is. grind (arith, is);
   read = λ is. grind (arith, is);
   write = λ is. grind (arith, is);
@@ -42,34 +46,64 @@ memory_line limit held command = record {
 same_status : (status : ℕ) → status ≢ 0 → after_fault status ≡ status
 same_status status not_0 = grind (arith, not_0)
 
--- a refusal
-pub reported : (limit : ℕ) (held new : Option Contents) (command : Option Spoken) (before now status result : ℕ) (text : List ℕ) (old known : Known) → status ≢ 0
-    → Lined limit command held status text → Judged limit command held new before now status text → Reports text status result old known → PutsLine limit held command result old known
-reported limit held new command before now status result text old known not_0 lined judged (inl (inl (is, took))) =
-    inr (inl (text, subst (λ (n : ℕ). IsLine limit held command n text) (sym is) (line_is limit held new command before now status text lined judged), took))
-reported limit held new command before now status result text old known not_0 lined judged (inl (inr (inl (is, fault)))) =
-    let at : result ≡ status = grind (arith, is, same_status status not_0) in
-    inr (inr (inl ((λ zero. not_0 (grind (arith, at, zero))), text, subst (λ (n : ℕ). IsLine limit held command n text) (sym at) (line_is limit held new command before now status text lined judged), fault)))
-reported limit held new command before now status result text old known not_0 lined judged (inl (inr (inr lacked))) = inr (inr (inr (inr lacked)))
-reported limit held new command before now status result text old known not_0 lined judged (inr (inl (is, took))) =
-    inr (inl (refusal_line Memory, subst (λ (n : ℕ). IsLine limit held command n (refusal_line Memory)) (sym is) (memory_line limit held command), took))
-reported limit held new command before now status result text old known not_0 lined judged (inr (inr (inl (is, fault)))) =
-    inr (inr (inl ((λ zero. grind (arith, is, zero)), refusal_line Memory, subst (λ (n : ℕ). IsLine limit held command n (refusal_line Memory)) (sym is) (memory_line limit held command), fault)))
-reported limit held new command before now status result text old known not_0 lined judged (inr (inr (inr lacked))) = inr (inr (inr (inr lacked)))
+-- ---- no refusal has the status of a command that was done, or an empty line
 
--- the text of a command that was done
+pub not_done : (refusal : Refusal) → status_of refusal ≢ 0
+not_done NoCommand = λ is. grind (arith, is)
+not_done (Object number fault) = λ is. grind (arith, is)
+not_done TooLong = λ is. grind (arith, is)
+not_done (Read name) = λ is. grind (arith, is)
+not_done (Write name) = λ is. grind (arith, is)
+not_done Memory = λ is. grind (arith, is)
+not_done (Text at kind) = λ is. grind (arith, is)
+not_done (Image offset) = λ is. grind (arith, is)
+not_done Unbuilt = λ is. grind (arith, is)
+
+some : (byte : ℕ) (text : List ℕ) → byte ∷ text ≢ []
+some byte text = λ is. grind (arith, is)
+
+line_is_some : (text : List ℕ) → line text ≢ []
+line_is_some [] = some 10 []
+line_is_some (byte ∷ text) = some byte (line text)
+
+pub refusal_is_some : (refusal : Refusal) → refusal_line refusal ≢ []
+refusal_is_some NoCommand = line_is_some (codes "2 words")
+refusal_is_some (Object number fault) = line_is_some (((codes "3 object " ++ (decimal number ++ codes " ")) ++ object_word fault) ++ object_place fault)
+refusal_is_some TooLong = line_is_some (codes "4 limit FileBytes 16777217 16777216")
+refusal_is_some (Read name) = line_is_some (codes "5 read " ++ name.now)
+refusal_is_some (Write name) = line_is_some (codes "6 write " ++ name.now)
+refusal_is_some Memory = line_is_some (codes "7 memory")
+refusal_is_some (Text at kind) = line_is_some ((codes "9 text " ++ (decimal at ++ codes " ")) ++ kind_word kind)
+refusal_is_some (Image offset) = line_is_some (codes "11 image " ++ decimal offset)
+refusal_is_some Unbuilt = line_is_some (codes "13 unbuilt")
+
+-- ---- a refusal
+
+pub reported : (limit : ℕ) (held new : Option Contents) (command : Option Spoken) (before now status result : ℕ) (text : List ℕ) (old known : Known) → status ≢ 0 → text ≢ []
+    → Lined limit command held status text → Judged limit command held new before now status text → Reports text status result old known → PutsLine limit held command result old known
+reported limit held new command before now status result text old known not_0 not_none lined judged (inl (inl (is, took))) =
+    inr (inl (text, not_none, subst (λ (n : ℕ). IsLine limit held command n text) (sym is) (line_is limit held new command before now status text lined judged), took))
+reported limit held new command before now status result text old known not_0 not_none lined judged (inl (inr (inl (is, fault)))) =
+    let at : result ≡ status = grind (arith, is, same_status status not_0) in
+    inr (inr (inl ((λ zero. not_0 (grind (arith, at, zero))), text, not_none, subst (λ (n : ℕ). IsLine limit held command n text) (sym at) (line_is limit held new command before now status text lined judged), fault)))
+reported limit held new command before now status result text old known not_0 not_none lined judged (inl (inr (inr lacked))) = inr (inr (inr (inr lacked)))
+reported limit held new command before now status result text old known not_0 not_none lined judged (inr (inl (is, took))) =
+    inr (inl (refusal_line Memory, refusal_is_some Memory, subst (λ (n : ℕ). IsLine limit held command n (refusal_line Memory)) (sym is) (memory_line limit held command), took))
+reported limit held new command before now status result text old known not_0 not_none lined judged (inr (inr (inl (is, fault)))) =
+    inr (inr (inl ((λ zero. grind (arith, is, zero)), refusal_line Memory, refusal_is_some Memory, subst (λ (n : ℕ). IsLine limit held command n (refusal_line Memory)) (sym is) (memory_line limit held command), fault)))
+reported limit held new command before now status result text old known not_0 not_none lined judged (inr (inr (inr lacked))) = inr (inr (inr (inr lacked)))
+
+-- ---- the text of a command that was done
+
 pub told : (limit : ℕ) (held new : Option Contents) (command : Option Spoken) (before now result : ℕ) (text : List ℕ) (old known : Known)
-    → Lined limit command held 0 text → Judged limit command held new before now 0 text → Reports text 0 result old known → PutsLine limit held command result old known
-told limit held new command before now result text old known lined judged (inl (inl (is, took))) =
-    inr (inl (text, subst (λ (n : ℕ). IsLine limit held command n text) (sym is) (line_is limit held new command before now 0 text lined judged), took))
-told limit held new command before now result text old known lined judged (inl (inr (inl (is, fault)))) =
-    inr (inr (inr (inl (is, text, line_is limit held new command before now 0 text lined judged, fault))))
-told limit held new command before now result text old known lined judged (inl (inr (inr lacked))) = inr (inr (inr (inr lacked)))
-told limit held new command before now result text old known lined judged (inr (inl (is, took))) =
-    inr (inl (refusal_line Memory, subst (λ (n : ℕ). IsLine limit held command n (refusal_line Memory)) (sym is) (memory_line limit held command), took))
-told limit held new command before now result text old known lined judged (inr (inr (inl (is, fault)))) =
-    inr (inr (inl ((λ zero. grind (arith, is, zero)), refusal_line Memory, subst (λ (n : ℕ). IsLine limit held command n (refusal_line Memory)) (sym is) (memory_line limit held command), fault)))
-told limit held new command before now result text old known lined judged (inr (inr (inr lacked))) = inr (inr (inr (inr lacked)))
+    → Lined limit command held 0 text → Judged limit command held new before now 0 text → Tells text result old known → PutsLine limit held command result old known
+told limit held new command before now result [] old known lined judged (is, same) =
+    inl (is, line_is limit held new command before now 0 [] lined judged, same)
+told limit held new command before now result (byte ∷ text) old known lined judged (inl (is, took)) =
+    inr (inl (byte ∷ text, some byte text, subst (λ (n : ℕ). IsLine limit held command n (byte ∷ text)) (sym is) (line_is limit held new command before now 0 (byte ∷ text) lined judged), took))
+told limit held new command before now result (byte ∷ text) old known lined judged (inr (inl (is, fault))) =
+    inr (inr (inr (inl (is, byte ∷ text, some byte text, line_is limit held new command before now 0 (byte ∷ text) lined judged, fault))))
+told limit held new command before now result (byte ∷ text) old known lined judged (inr (inr lacked)) = inr (inr (inr (inr lacked)))
 
 was_put_keeps : (piece : List ℕ) (before : ℕ) (old new : Known) → Rose before old.faults → WasPut piece old new → Rose before new.faults
 was_put_keeps piece before old new rose (inl took) = omega (arith, rose, took.never_falls)
@@ -79,13 +113,13 @@ was_put_keeps piece before old new rose (inr (inr lacked)) = omega (arith, rose,
 fault_rose : (text : List ℕ) (old new : Known) → PutsFault text old new → Rose old.faults new.faults
 fault_rose text old new fault = was_put_keeps _ old.faults fault.between new fault.failed.rose fault.line
 
-pub six_rose : (text : List ℕ) (result : ℕ) (old known : Known) → Reports text 0 result old known → result ≡ 6 → Rose old.faults known.faults
-six_rose text result old known (inl (inl (is, took))) six = grind (arith, is, six)
-six_rose text result old known (inl (inr (inl (is, fault)))) six = fault_rose text old known fault
-six_rose text result old known (inl (inr (inr (is, lacked)))) six = grind (arith, is, six)
-six_rose text result old known (inr (inl (is, took))) six = grind (arith, is, six)
-six_rose text result old known (inr (inr (inl (is, fault)))) six = grind (arith, is, six)
-six_rose text result old known (inr (inr (inr (is, lacked)))) six = grind (arith, is, six)
+-- it comes to 6 only where the sink failed, and there was a text
+pub six_rose : (text : List ℕ) (result : ℕ) (command : Option Spoken) (old known : Known) → Tells text result old known → (IsQuiet command → text ≡ []) → result ≡ 6
+    → Rose old.faults known.faults × ¬ IsQuiet command
+six_rose [] result command old known (is, same) none six = grind (arith, is, six)
+six_rose (byte ∷ text) result command old known (inl (is, took)) none six = grind (arith, is, six)
+six_rose (byte ∷ text) result command old known (inr (inl (is, fault))) none six = (fault_rose (byte ∷ text) old known fault, λ quiet. some byte text (none quiet))
+six_rose (byte ∷ text) result command old known (inr (inr (is, lacked))) none six = grind (arith, is, six)
 
 -- ---- a status that want of memory may take the place of
 
@@ -101,20 +135,9 @@ fault_kept status result (inl is) (inl five) = inl (grind (arith, is, five))
 fault_kept status result (inl is) (inr seven) = inr (grind (arith, is, seven))
 fault_kept status result (inr is) either = inr is
 
--- no refusal has the status of a command that was done
-pub not_done : (refusal : Refusal) → status_of refusal ≢ 0
-not_done NoCommand = λ is. grind (arith, is)
-not_done TooLong = λ is. grind (arith, is)
-not_done (Read name) = λ is. grind (arith, is)
-not_done (Write name) = λ is. grind (arith, is)
-not_done Memory = λ is. grind (arith, is)
-not_done (Text at kind) = λ is. grind (arith, is)
-not_done (Image offset) = λ is. grind (arith, is)
-not_done Unbuilt = λ is. grind (arith, is)
-
 -- a command that was done printed no line that names a file
-pub counts : (result before now : ℕ) (A B : Type 0) → (result ≡ 0) ⊎ (result ≡ 6) ⊎ (result ≡ 7) → RoseBy 0 before now → (result ≡ 6 → A) → B
+pub counts : (result before now : ℕ) (A B : Type 0) → (result ≡ 0) ⊎ (result ≡ 6) ⊎ (result ≡ 7) → RoseBy 0 before now → (result ≡ 6 → A × B)
     → RoseBy (lines_of result) before now ⊎ ((result ≡ 6) × A × B)
-counts result before now A B (inl is) rose a b = inl (subst (λ (n : ℕ). RoseBy (lines_of n) before now) (sym is) rose)
-counts result before now A B (inr (inl is)) rose a b = inr (is, a is, b)
-counts result before now A B (inr (inr is)) rose a b = inl (subst (λ (n : ℕ). RoseBy (lines_of n) before now) (sym is) rose)
+counts result before now A B (inl is) rose both = inl (subst (λ (n : ℕ). RoseBy (lines_of n) before now) (sym is) rose)
+counts result before now A B (inr (inl is)) rose both = inr (is, (both is).0, (both is).1)
+counts result before now A B (inr (inr is)) rose both = inl (subst (λ (n : ℕ). RoseBy (lines_of n) before now) (sym is) rose)

@@ -1,13 +1,14 @@
 -- The statuses of a command, when each comes, and what is printed with it.
 use Rattle.std.specs.Prelude.{◌≡◌, ◌≢◌, ℕ, ◌==◌, ◌⊎◌, List, [], ◌∷◌, ◌++◌, Bool, if◌then◌else◌, Option, None, Some, codes, decimal, IsTrue, IfSome, IsSomeAnd}
 use Rattle.std.specs.List.{list_any}
-use Rattle.std.specs.Option.{ForSome}
-use Rattle.outer_files.specs.Outside.{Contents, WhereTold, Rose, RoseBy, Known, TookPiece, FailedPiece, LackedMemory}
+use Rattle.outer_files.specs.Outside.{Contents, Known, TookPiece, FailedPiece, LackedMemory}
 use Rattle.gimple_syntax.specs.declared.text.TextKind.{TextKind}
-use Rattle.whopr_words.specs.Commands.{Spoken, Cc, Run}
-use Rattle.whopr_top.specs.Reads.{reads_of, written_name, IsOverLimit, IsAbsent, IsReached}
-use Rattle.whopr_top.specs.Judgements.{line, text_line}
-use Rattle.whopr_top.specs.Outputs.{IsJudged, IsRefused, Done, CutShort, Refused, IsValid}
+use Rattle.lto_object.specs.declared.fault.ObjectFault.{ObjectFault}
+use Rattle.whopr_words.specs.Commands.{Spoken, Cc, Lgen, Show, Run}
+use Rattle.whopr_top.specs.Reads.{reads_of, MayWrite, IsReached}
+use Rattle.whopr_top.specs.Lines.{line, text_line, object_line}
+use Rattle.whopr_top.specs.Judgements.{File}
+use Rattle.whopr_top.specs.Outputs.{IsJudged, IsRefused}
 
 -- A status comes exactly for its cause. Want of memory, 7, may come in its place.
 pub record Exactly (status result : ℕ) (cause : Type 0) : Type 0 where
@@ -16,27 +17,37 @@ pub record Exactly (status result : ℕ) (cause : Type 0) : Type 0 where
 
 -- the statuses that there are
 abbrev pub is_status : ℕ → Bool
-is_status status = list_any (λ s. s == status) (0 ∷ 2 ∷ 4 ∷ 5 ∷ 6 ∷ 7 ∷ 9 ∷ 11 ∷ 13 ∷ [])
+is_status status = list_any (λ s. s == status) (0 ∷ 2 ∷ 3 ∷ 4 ∷ 5 ∷ 6 ∷ 7 ∷ 9 ∷ 11 ∷ 13 ∷ [])
 
 -- the statuses of a command that was refused before its first write
 abbrev pub is_early : ℕ → Bool
-is_early status = list_any (λ s. s == status) (2 ∷ 4 ∷ 5 ∷ 9 ∷ 11 ∷ 13 ∷ [])
+is_early status = list_any (λ s. s == status) (2 ∷ 3 ∷ 4 ∷ 5 ∷ 9 ∷ 11 ∷ 13 ∷ [])
 
 -- the statuses of a command that what it read refuses
 abbrev pub is_judged : ℕ → Bool
-is_judged status = list_any (λ s. s == status) (9 ∷ 11 ∷ 13 ∷ [])
+is_judged status = list_any (λ s. s == status) (3 ∷ 9 ∷ 11 ∷ 13 ∷ [])
 
 -- how many lines that name a file are printed with a status of 5 or 6, where the sink itself does not fail
 abbrev pub lines_of : ℕ → ℕ
 lines_of status = if status == 5 then 1 else if status == 6 then 1 else 0
 
--- The text that is printed with a status, by what the command reads, where that is told.
+-- the commands that print nothing when they were done
+abbrev pub IsQuiet : Option Spoken → Type 0
+IsQuiet None = ⊥
+IsQuiet (Some (Cc input output)) = Unit {0}
+IsQuiet (Some (Lgen input output)) = Unit {0}
+IsQuiet (Some (Show object)) = ⊥
+IsQuiet (Some (Run image steps input output)) = ⊥
+
+-- The text that goes with a status, by what the command reads, where that is told.
 pub record IsLine (limit : ℕ) (held : Option Contents) (command : Option Spoken) (status : ℕ) (text : List ℕ) : Type 0 where
-  pub done : status ≡ 0 → IfSome held (λ files. IsSomeAnd command (λ c. (written : List ℕ) × IsJudged limit c files written text))
+  pub done : status ≡ 0 → IfSome held (λ files. IsSomeAnd command (λ c. (written : List File) × IsJudged limit c files written text))
+  pub quiet : status ≡ 0 → IsQuiet command → text ≡ []
   pub words : status ≡ 2 → text ≡ line (codes "2 words")
+  pub object : status ≡ 3 → (number : ℕ) × (fault : ObjectFault) × (text ≡ object_line number fault)
   pub over : status ≡ 4 → text ≡ line (codes "4 limit FileBytes 16777217 16777216")
   pub read : status ≡ 5 → IsSomeAnd command (λ c. (name : List ℕ) × IfSome held (λ files. IsReached limit files (reads_of c) name) × (text ≡ line (codes "5 read " ++ name)))
-  pub write : status ≡ 6 → IsSomeAnd command (λ c. text ≡ line (codes "6 write " ++ written_name c))
+  pub write : status ≡ 6 → IsSomeAnd command (λ c. (name : List ℕ) × MayWrite c name × (text ≡ line (codes "6 write " ++ name)))
   pub memory : status ≡ 7 → text ≡ line (codes "7 memory")
   pub spelled : status ≡ 9 → (at : ℕ) × (kind : TextKind) × (text ≡ text_line at kind)
   pub image : status ≡ 11 → (offset : ℕ) × (text ≡ line (codes "11 image " ++ decimal offset))
@@ -69,18 +80,13 @@ Puts text status result old new =
     ⊎ ((result ≡ after_fault status) × PutsFault text old new)
     ⊎ ((result ≡ 7) × LackedMemory old new)
 
--- the commands that print nothing when they were done
-abbrev pub IsQuiet : Option Spoken → Type 0
-IsQuiet None = ⊥
-IsQuiet (Some (Cc input output)) = Unit {0}
-IsQuiet (Some (Run image steps input output)) = ⊥
-
--- What was put: nothing, by a command that is quiet; or the line of the status that is answered, and where the sink failed at
--- it, the line for that; or the text of a command that was done, at which the sink failed; or nothing for want of memory.
+-- What was put: nothing, by a command that was done and has an empty text; or the text of the status that is answered, and where
+-- the sink failed at a refusal's line, the line for that; or the text of a command that was done, at which the sink failed; or
+-- nothing for want of memory.
 abbrev pub PutsLine : ℕ → Option Contents → Option Spoken → ℕ → Known → Known → Type 0
 PutsLine limit held command result old new =
-    ((result ≡ 0) × IsQuiet command × (new ≡ old))
-    ⊎ ((text : List ℕ) × IsLine limit held command result text × TookPiece text old new)
-    ⊎ ((result ≢ 0) × (text : List ℕ) × IsLine limit held command result text × PutsFault text old new)
-    ⊎ ((result ≡ 6) × (text : List ℕ) × IsLine limit held command 0 text × PutsFault text old new)
+    ((result ≡ 0) × IsLine limit held command 0 [] × (new ≡ old))
+    ⊎ ((text : List ℕ) × (text ≢ []) × IsLine limit held command result text × TookPiece text old new)
+    ⊎ ((result ≢ 0) × (text : List ℕ) × (text ≢ []) × IsLine limit held command result text × PutsFault text old new)
+    ⊎ ((result ≡ 6) × (text : List ℕ) × (text ≢ []) × IsLine limit held command 0 text × PutsFault text old new)
     ⊎ ((result ≡ 7) × LackedMemory old new)

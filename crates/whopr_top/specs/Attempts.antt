@@ -1,13 +1,15 @@
 -- How a command went before it printed anything: its status, its text, and what became of the files.
-use Rattle.std.specs.Prelude.{◌≡◌, ◌≢◌, ℕ, ◌⊎◌, List, Option, None, IsTrue, IfSome, IsSomeAnd, codes, decimal, ◌++◌}
+use Rattle.std.specs.Prelude.{◌≡◌, ◌≢◌, ℕ, ◌⊎◌, List, [], Option, None, IsTrue, IfSome, IsSomeAnd, codes, decimal, ◌++◌}
 use Rattle.std.specs.Option.{ForSome}
 use Rattle.outer_files.specs.Outside.{Contents, WhereTold, Rose, RoseBy}
 use Rattle.gimple_syntax.specs.declared.text.TextKind.{TextKind}
+use Rattle.lto_object.specs.declared.fault.ObjectFault.{ObjectFault}
 use Rattle.whopr_words.specs.Commands.{Spoken}
-use Rattle.whopr_top.specs.Reads.{reads_of, written_name, IsOverLimit, IsAbsent, IsReached}
-use Rattle.whopr_top.specs.Judgements.{line, text_line}
+use Rattle.whopr_top.specs.Reads.{reads_of, MayWrite, IsOverLimit, IsAbsent, IsReached}
+use Rattle.whopr_top.specs.Lines.{line, text_line, object_line}
+use Rattle.whopr_top.specs.Judgements.{File}
 use Rattle.whopr_top.specs.Outputs.{IsJudged, IsRefused, Done, Faithful, CutShort, Refused, IsValid}
-use Rattle.whopr_top.specs.Answers.{Exactly, is_status, is_early, is_judged, lines_of}
+use Rattle.whopr_top.specs.Answers.{Exactly, is_status, is_early, is_judged, lines_of, IsQuiet}
 
 -- what does not ask for what the command comes to by what it read
 pub record Attempt (limit : ℕ) (command : Option Spoken) (old new : Option Contents) (status : ℕ) : Type 0 where
@@ -24,12 +26,14 @@ pub record Counted (before now status : ℕ) : Type 0 where
   pub write : status ≡ 6 → Rose before now
   pub counting : RoseBy (lines_of status) before now
 
--- the lines of refusals, whatever the store tells
+-- the text of a command that is quiet and the lines of refusals, whatever the store tells
 pub record Lined (limit : ℕ) (command : Option Spoken) (old : Option Contents) (status : ℕ) (text : List ℕ) : Type 0 where
+  pub quiet : status ≡ 0 → IsQuiet command → text ≡ []
   pub words : status ≡ 2 → text ≡ line (codes "2 words")
+  pub object : status ≡ 3 → (number : ℕ) × (fault : ObjectFault) × (text ≡ object_line number fault)
   pub over : status ≡ 4 → text ≡ line (codes "4 limit FileBytes 16777217 16777216")
   pub read : status ≡ 5 → IsSomeAnd command (λ c. (name : List ℕ) × IfSome old (λ files. IsReached limit files (reads_of c) name) × (text ≡ line (codes "5 read " ++ name)))
-  pub write : status ≡ 6 → IsSomeAnd command (λ c. text ≡ line (codes "6 write " ++ written_name c))
+  pub write : status ≡ 6 → IsSomeAnd command (λ c. (name : List ℕ) × MayWrite c name × (text ≡ line (codes "6 write " ++ name)))
   pub memory : status ≡ 7 → text ≡ line (codes "7 memory")
   pub spelled : status ≡ 9 → (at : ℕ) × (kind : TextKind) × (text ≡ text_line at kind)
   pub image : status ≡ 11 → (offset : ℕ) × (text ≡ line (codes "11 image " ++ decimal offset))
@@ -37,6 +41,7 @@ pub record Lined (limit : ℕ) (command : Option Spoken) (old : Option Contents)
 
 -- what the command comes to by what it read
 pub record Judged (limit : ℕ) (command : Option Spoken) (old new : Option Contents) (before now status : ℕ) (text : List ℕ) : Type 0 where
+  pub object : ForSome old (λ held. status ≢ 5 → Exactly 3 status (Refused 3 limit held command))
   pub spelled : ForSome old (λ held. status ≢ 5 → Exactly 9 status (Refused 9 limit held command))
   pub image : ForSome old (λ held. status ≢ 5 → Exactly 11 status (Refused 11 limit held command))
   pub unbuilt : ForSome old (λ held. status ≢ 5 → Exactly 13 status (Refused 13 limit held command))
@@ -44,5 +49,5 @@ pub record Judged (limit : ℕ) (command : Option Spoken) (old new : Option Cont
   pub done : status ≡ 0 → WhereTold old new (Done limit command)
   pub follows : status ≡ 0 → WhereTold old new (Faithful command)
   pub cut_short : status ≡ 6 → WhereTold old new (CutShort limit command)
-  pub done_line : status ≡ 0 → IfSome old (λ files. IsSomeAnd command (λ c. (written : List ℕ) × IsJudged limit c files written text))
+  pub done_line : status ≡ 0 → IfSome old (λ files. IsSomeAnd command (λ c. (written : List File) × IsJudged limit c files written text))
   pub refused_line : IsTrue (is_judged status) → IfSome old (λ files. IsSomeAnd command (λ c. IsRefused limit c files status text))

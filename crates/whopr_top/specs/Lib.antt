@@ -1,4 +1,5 @@
 pub mod Reads
+pub mod Lines
 pub mod Judgements
 pub mod Outputs
 pub mod Answers

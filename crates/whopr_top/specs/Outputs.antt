@@ -1,5 +1,5 @@
 -- What the files hold after a command, by what it read.
-use Rattle.std.specs.Prelude.{◌≡◌, ℕ, List, Option, None, Some, IsSomeAnd}
+use Rattle.std.specs.Prelude.{◌≡◌, ℕ, ◌⊎◌, List, [], ◌∷◌, Option, Some, IsSomeAnd}
 use Rattle.outer_files.specs.Outside.{Contents, Writes, WritesPrefix}
 use Rattle.follow_laws.specs.Follows.{Follows}
 use Rattle.first_form.specs.declared.form.FirstForm.{FirstForm}
@@ -7,21 +7,36 @@ use Rattle.first_form.specs.Form.{Spells}
 use Rattle.first_form.specs.Compiled.{IsLoadable}
 use Rattle.first_form.specs.Source.{program_of}
 use Rattle.whopr_words.specs.Commands.{Spoken, Cc}
-use Rattle.whopr_top.specs.Reads.{reads_of, written_name, AreHeld}
-use Rattle.whopr_top.specs.Judgements.{Refuses, Gives, Judges}
+use Rattle.whopr_top.specs.Reads.{reads_of, AreHeld}
+use Rattle.whopr_top.specs.Judgements.{File, Refuses, Gives, Judges}
 
--- the contents that are held within the limit make the command give these bytes and print this text
-pub record IsJudged (limit : ℕ) (command : Spoken) (held : Contents) (written text : List ℕ) : Type 0 where
+-- ---- writes
+
+-- each file is written, one after the other; where there are none, every file stands
+abbrev pub WritesAll : List File → Contents → Contents → Type 0
+WritesAll [] old new = new ≡ old
+WritesAll (file ∷ files) old new = (between : Contents) × Writes file.0 file.1 old between × WritesAll files between new
+
+-- files are written one after the other, up to one of which a prefix is written
+abbrev pub CutsShort : List File → Contents → Contents → Type 0
+CutsShort [] old new = ⊥
+CutsShort (file ∷ files) old new =
+    WritesPrefix file.0 file.1 old new ⊎ ((between : Contents) × Writes file.0 file.1 old between × CutsShort files between new)
+
+-- ---- commands
+
+-- the contents that are held within the limit make the command write these files and print this text
+pub record IsJudged (limit : ℕ) (command : Spoken) (held : Contents) (written : List File) (text : List ℕ) : Type 0 where
   pub contents : List (List ℕ)
   pub read : AreHeld limit held (reads_of command) contents
   pub judged : Judges command contents (Gives written text)
 
 -- what the command gives was written
 pub record IsDone (limit : ℕ) (command : Spoken) (old new : Contents) : Type 0 where
-  pub written : List ℕ
+  pub written : List File
   pub text : List ℕ
   pub judged : IsJudged limit command old written text
-  pub writes : Writes (written_name command) written old new
+  pub writes : WritesAll written old new
 
 -- the text that is held as IN is spelled in the first form, and OUT holds an image that can be loaded and that does, on every
 -- input, what the program of the text does
@@ -40,12 +55,12 @@ abbrev pub Faithful : Option Spoken → Contents → Contents → Type 0
 Faithful (Some (Cc input output)) old new = IsFaithful input output old new
 Faithful _ old new = Unit {0}
 
--- a prefix of what the command gives was written
+-- what the command gives was written in part
 pub record IsCutShort (limit : ℕ) (command : Spoken) (old new : Contents) : Type 0 where
-  pub written : List ℕ
+  pub written : List File
   pub text : List ℕ
   pub judged : IsJudged limit command old written text
-  pub writes : WritesPrefix (written_name command) written old new
+  pub writes : CutsShort written old new
 
 abbrev pub Done : ℕ → Option Spoken → Contents → Contents → Type 0
 Done limit command old new = IsSomeAnd command (λ c. IsDone limit c old new)
@@ -64,4 +79,4 @@ Refused status limit held command = IsSomeAnd command (λ c. (text : List ℕ) �
 
 -- the command is one that nothing that is held keeps from being done
 abbrev pub IsValid : ℕ → Contents → Option Spoken → Type 0
-IsValid limit held command = IsSomeAnd command (λ c. (written text : List ℕ) × IsJudged limit c held written text)
+IsValid limit held command = IsSomeAnd command (λ c. (written : List File) × (text : List ℕ) × IsJudged limit c held written text)

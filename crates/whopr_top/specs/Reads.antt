@@ -1,17 +1,21 @@
 -- What a command asks of the files that it reads and writes, for commands in general.
-use Rattle.std.specs.Prelude.{◌≡◌, ℕ, ◌<◌, ◌≤◌, ◌⊎◌, List, [], ◌∷◌, length, Option, None, Some, IsSomeAnd}
+use Rattle.std.specs.Prelude.{◌≡◌, ℕ, ◌≤◌, ◌⊎◌, List, [], ◌∷◌, length, Option, None, Some, IsSomeAnd}
 use Rattle.outer_files.specs.Outside.{Contents, IsLonger}
-use Rattle.whopr_words.specs.Commands.{Spoken, Cc, Run}
+use Rattle.whopr_words.specs.Commands.{Spoken, Cc, Lgen, Show, Run}
 
 -- the files that a command reads, in order
 abbrev pub reads_of : Spoken → List (List ℕ)
 reads_of (Cc input output) = input ∷ []
+reads_of (Lgen input output) = input ∷ []
+reads_of (Show object) = object ∷ []
 reads_of (Run image steps input output) = image ∷ input ∷ []
 
--- the file that it writes
-abbrev pub written_name : Spoken → List ℕ
-written_name (Cc input output) = output
-written_name (Run image steps input output) = output
+-- the names of the files that it may write
+abbrev pub MayWrite : Spoken → List ℕ → Type 0
+MayWrite (Cc input output) name = name ≡ output
+MayWrite (Lgen input output) name = name ≡ output
+MayWrite (Show object) name = ⊥
+MayWrite (Run image steps input output) name = name ≡ output
 
 -- the file is held with no more bytes than the limit
 abbrev pub IsWithin : ℕ → Option (List ℕ) → Type 0

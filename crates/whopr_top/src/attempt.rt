@@ -1,30 +1,29 @@
-// What a command does before it prints anything: its reads, its work and its write.
-ghost use Rattle.std.specs.Prelude.{◌≡◌, [], None, Some, IfOk, IfErr, OnOk};
-ghost use Rattle.rv64_meaning.specs.Laws.{output_of};
-ghost use Rattle.rv64_meaning.specs.Loading.{load_fault_of, run_of};
-ghost use Rattle.rv64_meaning.specs.Standings.{outcome_by, IsCause};
-ghost use Rattle.whopr_words.specs.Commands.{Cc, Run, words_of, command_of};
-ghost use Rattle.whopr_top.specs.Judgements.{outcome_line};
+// What a command does before it prints anything: its reads, its work and its writes. What it gives is the text that is printed.
+ghost use Rattle.std.specs.Prelude.{◌≡◌, [], Some, IfOk};
+ghost use Rattle.whopr_words.specs.Commands.{Cc, Lgen, Show, Run, words_of, command_of};
+ghost use Rattle.whopr_top.specs.Answers.{IsQuiet};
 ghost use Rattle.whopr_top.specs.Attempts.{Attempt, Counted, Lined, Judged};
-ghost use Rattle.whopr_top.specs.Refusal.{Fits, answer_of, text_of};
+ghost use Rattle.whopr_top.specs.Refusal.{answer_of, text_of};
 
-use crate::printed::Printed;
+use crate::objects::{object_of, shown};
 use crate::refusal::Refusal;
+use crate::running::run_image;
 use crate::top::FILE_BYTES;
 use first_form::{FormFault, compile};
 use gimple_syntax::{TextError, read_module};
+use lto_object::ObjectError;
 use outer_files::{FileStore, ReadFault, WriteFault};
-use rv64_meaning::{LoadError, Machine, MachineState};
+use rv64_meaning::LoadError;
 use std::alloc::Global;
 use whopr_words::{Command, read_words};
 
-/// Does the command that the words are.
+/// Does the command that the words are. The text that it prints is the answer.
 pub fn attempt<'a, F: FileStore>(
     alloc: Global,
     words: &'a [String],
     files: &mut F,
-) -> Result<Printed, Refusal<'a>>
-    ensures quiet { IfOk result (Fits (command_of (words_of words.now))) }
+) -> Result<Vec<u8>, Refusal<'a>>
+    ensures quiet { IfOk result (λ text. IsQuiet (command_of (words_of words.now)) → text.items ≡ []) }
     ensures attempt { Attempt FILE_BYTES (command_of (words_of words.now)) (F.held files.old) (F.held files.new) (answer_of result) }
     ensures counted { Counted (F.faults files.old) (F.faults files.new) (answer_of result) }
     ensures lined { Lined FILE_BYTES (command_of (words_of words.now)) (F.held files.old) (answer_of result) (text_of result) }
@@ -32,6 +31,8 @@ pub fn attempt<'a, F: FileStore>(
 {
     match read_words(words) {
         Some(Command::Cc { input, out }) => cc(alloc, input, out, files),
+        Some(Command::Lgen { input, out }) => lgen(alloc, input, out, files),
+        Some(Command::Show { object }) => show(alloc, object, files),
         Some(
             Command::Run {
                 image,
@@ -50,8 +51,8 @@ fn cc<'a, F: FileStore>(
     input: &'a str,
     out: &'a str,
     files: &mut F,
-) -> Result<Printed, Refusal<'a>>
-    ensures quiet { IfOk result (Fits (Some (Cc input.now out.now))) }
+) -> Result<Vec<u8>, Refusal<'a>>
+    ensures quiet { IfOk result (λ text. IsQuiet (Some (Cc input.now out.now)) → text.items ≡ []) }
     ensures attempt { Attempt FILE_BYTES (Some (Cc input.now out.now)) (F.held files.old) (F.held files.new) (answer_of result) }
     ensures counted { Counted (F.faults files.old) (F.faults files.new) (answer_of result) }
     ensures lined { Lined FILE_BYTES (Some (Cc input.now out.now)) (F.held files.old) (answer_of result) (text_of result) }
@@ -74,13 +75,72 @@ fn cc<'a, F: FileStore>(
         Err(FormFault::NoMemory) => return Err(Refusal::Memory),
     };
     match files.write_all(out, &image) {
-        Ok(()) => Ok(Printed::Nothing),
+        Ok(()) => Ok(Vec::new(alloc)),
         Err(WriteFault::Failed) => Err(Refusal::Write(out)),
         Err(WriteFault::NoMemory) => Err(Refusal::Memory),
     }
 }
 
-// Runs an image.
+// Writes the object of a text.
+fn lgen<'a, F: FileStore>(
+    alloc: Global,
+    input: &'a str,
+    out: &'a str,
+    files: &mut F,
+) -> Result<Vec<u8>, Refusal<'a>>
+    ensures quiet { IfOk result (λ text. IsQuiet (Some (Lgen input.now out.now)) → text.items ≡ []) }
+    ensures attempt { Attempt FILE_BYTES (Some (Lgen input.now out.now)) (F.held files.old) (F.held files.new) (answer_of result) }
+    ensures counted { Counted (F.faults files.old) (F.faults files.new) (answer_of result) }
+    ensures lined { Lined FILE_BYTES (Some (Lgen input.now out.now)) (F.held files.old) (answer_of result) (text_of result) }
+    ensures judged { Judged FILE_BYTES (Some (Lgen input.now out.now)) (F.held files.old) (F.held files.new) (F.faults files.old) (F.faults files.new) (answer_of result) (text_of result) }
+{
+    let text = match files.read_all(alloc, input, FILE_BYTES) {
+        Ok(text) => text,
+        Err(ReadFault::Failed) => return Err(Refusal::Read(input)),
+        Err(ReadFault::TooLong) => return Err(Refusal::TooLong),
+        Err(ReadFault::NoMemory) => return Err(Refusal::Memory),
+    };
+    let source = match read_module(alloc, &text) {
+        Ok(source) => source,
+        Err(TextError::Fault(fault)) => return Err(Refusal::Text(fault.line, fault.kind)),
+        Err(TextError::NoMemory) => return Err(Refusal::Memory),
+    };
+    let Ok(object) = object_of(alloc, &text, &source) else {
+        return Err(Refusal::Memory);
+    };
+    match files.write_all(out, &object) {
+        Ok(()) => Ok(Vec::new(alloc)),
+        Err(WriteFault::Failed) => Err(Refusal::Write(out)),
+        Err(WriteFault::NoMemory) => Err(Refusal::Memory),
+    }
+}
+
+// Gives the text of an object's module.
+fn show<'a, F: FileStore>(
+    alloc: Global,
+    object: &'a str,
+    files: &mut F,
+) -> Result<Vec<u8>, Refusal<'a>>
+    ensures quiet { IfOk result (λ text. IsQuiet (Some (Show object.now)) → text.items ≡ []) }
+    ensures attempt { Attempt FILE_BYTES (Some (Show object.now)) (F.held files.old) (F.held files.new) (answer_of result) }
+    ensures counted { Counted (F.faults files.old) (F.faults files.new) (answer_of result) }
+    ensures lined { Lined FILE_BYTES (Some (Show object.now)) (F.held files.old) (answer_of result) (text_of result) }
+    ensures judged { Judged FILE_BYTES (Some (Show object.now)) (F.held files.old) (F.held files.new) (F.faults files.old) (F.faults files.new) (answer_of result) (text_of result) }
+{
+    let bytes = match files.read_all(alloc, object, FILE_BYTES) {
+        Ok(bytes) => bytes,
+        Err(ReadFault::Failed) => return Err(Refusal::Read(object)),
+        Err(ReadFault::TooLong) => return Err(Refusal::TooLong),
+        Err(ReadFault::NoMemory) => return Err(Refusal::Memory),
+    };
+    match shown(alloc, &bytes) {
+        Ok(text) => Ok(text),
+        Err(ObjectError::Fault(fault)) => Err(Refusal::Object(0, fault)),
+        Err(ObjectError::NoMemory) => Err(Refusal::Memory),
+    }
+}
+
+// Runs an image, and gives the line that says how the machine stands.
 fn run<'a, F: FileStore>(
     alloc: Global,
     image: &'a str,
@@ -88,8 +148,8 @@ fn run<'a, F: FileStore>(
     input: &'a str,
     out: &'a str,
     files: &mut F,
-) -> Result<Printed, Refusal<'a>>
-    ensures quiet { IfOk result (Fits (Some (Run image.now steps input.now out.now))) }
+) -> Result<Vec<u8>, Refusal<'a>>
+    ensures quiet { IfOk result (λ text. IsQuiet (Some (Run image.now steps input.now out.now)) → text.items ≡ []) }
     ensures attempt { Attempt FILE_BYTES (Some (Run image.now steps input.now out.now)) (F.held files.old) (F.held files.new) (answer_of result) }
     ensures counted { Counted (F.faults files.old) (F.faults files.new) (answer_of result) }
     ensures lined { Lined FILE_BYTES (Some (Run image.now steps input.now out.now)) (F.held files.old) (answer_of result) (text_of result) }
@@ -107,34 +167,14 @@ fn run<'a, F: FileStore>(
         Err(ReadFault::TooLong) => return Err(Refusal::TooLong),
         Err(ReadFault::NoMemory) => return Err(Refusal::Memory),
     };
-    let (state, output) = match run_image(alloc, &bytes, given, steps) {
+    let (line, output) = match run_image(alloc, &bytes, given, steps) {
         Ok(stood) => stood,
         Err(LoadError::Fault(fault)) => return Err(Refusal::Image(fault.offset)),
         Err(LoadError::NoMemory) => return Err(Refusal::Memory),
     };
     match files.write_all(out, &output) {
-        Ok(()) => Ok(Printed::Stood(state)),
+        Ok(()) => Ok(line),
         Err(WriteFault::Failed) => Err(Refusal::Write(out)),
         Err(WriteFault::NoMemory) => Err(Refusal::Memory),
-    }
-}
-
-// How the machine stands after at most so many steps, and its output.
-fn run_image(
-    alloc: Global,
-    image: &[u8],
-    given: Vec<u8>,
-    steps: u64,
-) -> Result<(MachineState, Vec<u8>), LoadError>
-    ensures loaded { OnOk result (load_fault_of image.now ≡ None) }
-    ensures output { IfOk result (λ r. r.1.items ≡ output_of (run_of image.now given.items steps)) }
-    ensures text { IfOk result (λ r. outcome_line (outcome_by r.0 []) ≡ outcome_line (run_of image.now given.items steps)) }
-    ensures refused { IfErr result (λ e. IsCause e (load_fault_of image.now)) }
-{
-    let mut machine = Machine::load(image, given)?;
-    let mut output = Vec::new(alloc);
-    match machine.run(steps, &mut output) {
-        Ok(state) => Ok((state, output)),
-        Err(_) => Err(LoadError::NoMemory),
     }
 }

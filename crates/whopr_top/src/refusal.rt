@@ -1,17 +1,19 @@
 // Why a command was refused: its status and its line.
 ghost use Rattle.std.specs.Prelude.{◌≡◌, IfOk, string_bytes};
-ghost use Rattle.whopr_top.specs.Judgements.{check_word, kind_word, text_line};
 ghost use Rattle.whopr_top.specs.Refusal.{status_of, refusal_line};
 
-use gimple_ir::TypeKind;
+use crate::lines::{object_line, text_line};
 use gimple_syntax::TextKind;
+use lto_object::ObjectFault;
 use std::alloc::{AllocError, Global};
 
 /// Why a command was refused. One variant a status.
-#[derive(Clone, Copy, Debug)]
+#[derive(Debug, Drop)]
 pub enum Refusal<'a> {
     /// 2: the words are no command.
     NoCommand,
+    /// 3: the object with this number among those of the command has a fault; its first.
+    Object(u32, ObjectFault),
     /// 4: a file that is read is longer than 16 MiB.
     TooLong,
     /// 5: this file could not be read.
@@ -30,11 +32,12 @@ pub enum Refusal<'a> {
 
 impl Refusal<'_> {
     /// The status that the command answers.
-    pub fn status(self) -> u8
-        ensures { result ≡ status_of self.entry }
+    pub fn status(&self) -> u8
+        ensures { result ≡ status_of self.now }
     {
         match self {
             Refusal::NoCommand => 2,
+            Refusal::Object(_, _) => 3,
             Refusal::TooLong => 4,
             Refusal::Read(_) => 5,
             Refusal::Write(_) => 6,
@@ -46,48 +49,13 @@ impl Refusal<'_> {
     }
 }
 
-fn check_word(kind: TypeKind) -> &'static str
-    ensures { result.now ≡ check_word kind }
-{
-    match kind {
-        TypeKind::DoubleName => "DoubleName",
-        TypeKind::UnknownName => "UnknownName",
-        TypeKind::TooMany => "TooMany",
-        TypeKind::BadLabel => "BadLabel",
-        TypeKind::OpenEnd => "OpenEnd",
-        TypeKind::WrongCount => "WrongCount",
-        TypeKind::WrongType => "WrongType",
-        TypeKind::NegLiteral => "NegLiteral",
-        TypeKind::BadCase => "BadCase",
-    }
-}
-
-fn kind_word(kind: TextKind) -> &'static str
-    ensures { result.now ≡ kind_word kind }
-{
-    match kind {
-        TextKind::Byte => "Byte",
-        TextKind::Syntax => "Syntax",
-        TextKind::Literal => "Literal",
-        TextKind::Check(kind) => check_word(kind),
-    }
-}
-
-fn text_line(alloc: Global, line: u32, kind: TextKind) -> Result<String, AllocError>
-    ensures { IfOk result (λ found. string_bytes found ≡ text_line line kind) }
-{
-    let mut text = format!(in alloc; "9 text {line} ")?;
-    text.push_str(kind_word(kind))?;
-    text.push_str("\n")?;
-    Ok(text)
-}
-
 /// The line of a refusal.
 pub fn refusal_line(alloc: Global, refusal: Refusal<'_>) -> Result<String, AllocError>
     ensures { IfOk result (λ line. string_bytes line ≡ refusal_line refusal.entry) }
 {
     match refusal {
         Refusal::NoCommand => format!(in alloc; "2 words\n"),
+        Refusal::Object(number, fault) => object_line(alloc, number, &fault),
         Refusal::TooLong => format!(in alloc; "4 limit FileBytes 16777217 16777216\n"),
         Refusal::Read(name) => format!(in alloc; "5 read {name}\n"),
         Refusal::Write(name) => format!(in alloc; "6 write {name}\n"),

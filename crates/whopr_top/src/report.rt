@@ -1,14 +1,10 @@
 // What a command prints: all of it in one put.
 ghost use Rattle.std.specs.Prelude.{◌≡◌, ◌⊎◌, []};
-ghost use Rattle.rv64_meaning.specs.Standings.{outcome_by};
-ghost use Rattle.whopr_top.specs.Judgements.{outcome_line};
 ghost use Rattle.whopr_top.specs.Answers.{after_fault, WasPut, Puts};
-ghost use Rattle.whopr_top.specs.Refusal.{status_of, refusal_line, Reports};
+ghost use Rattle.whopr_top.specs.Refusal.{status_of, refusal_line, Reports, Tells};
 
-use crate::printed::state_line;
 use crate::refusal::{Refusal, refusal_line};
 use outer_files::{Sink, WriteFault};
-use rv64_meaning::MachineState;
 use std::alloc::Global;
 
 // Puts a piece, whatever comes of it.
@@ -44,19 +40,21 @@ pub fn report<K: Sink>(alloc: Global, refusal: Refusal<'_>, out: &mut K) -> u8
     ensures status { (result ≡ status_of refusal.entry) ⊎ (result ≡ 7) }
     ensures printed { Reports (refusal_line refusal.entry) (status_of refusal.entry) result (K.known out.old) (K.known out.new) }
 {
+    let status = refusal.status();
     match refusal_line(alloc, refusal) {
-        Ok(line) => print(line.as_bytes(), refusal.status(), out),
+        Ok(line) => print(line.as_bytes(), status, out),
         Err(_) => print(b"7 memory\n", 7, out),
     }
 }
 
-/// Prints how a machine stands, and answers 0.
-pub fn tell<K: Sink>(alloc: Global, state: MachineState, out: &mut K) -> u8
+/// Prints the text of a command that was done, and answers 0. An empty text is not put.
+pub fn tell<K: Sink>(text: &[u8], out: &mut K) -> u8
     ensures status { (result ≡ 0) ⊎ (result ≡ 6) ⊎ (result ≡ 7) }
-    ensures printed { Reports (outcome_line (outcome_by state [])) 0 result (K.known out.old) (K.known out.new) }
+    ensures silent { text.now ≡ [] → (result ≡ 0) × (out.new ≡ out.old) }
+    ensures printed { Tells text.now result (K.known out.old) (K.known out.new) }
 {
-    match state_line(alloc, state) {
-        Ok(line) => print(line.as_bytes(), 0, out),
-        Err(_) => print(b"7 memory\n", 7, out),
+    if text.is_empty() {
+        return 0;
     }
+    print(text, 0, out)
 }

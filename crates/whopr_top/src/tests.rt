@@ -1,4 +1,5 @@
-// The rows of `cc` and `run` over files in memory, the image of `cc` word for word, its limits, and what is put piece by piece.
+// The rows of each command over files in memory, the image of `cc` word for word, the object of `lgen` stream by stream, limits,
+// and what is put piece by piece.
 ghost use Rattle.std.specs.Prelude.{OnOk, IsErrOf, None, Some, map};
 ghost use Rattle.outer_files.specs.Outside.{TookPiece, FailedPiece, LackedMemory};
 
@@ -185,17 +186,18 @@ fn limits(rt: HostRuntime) -> Result<(), Fail> {
     Ok(())
 }
 
-// How the image of the first row is changed before it is run.
+// How a file is changed before it is read.
 #[derive(Clone, Copy)]
 enum Change {
     Nothing,
     Byte(usize, u8),
     Word(usize),
     CutTo(usize),
+    OneMore,
 }
 
-fn changed(alloc: Global, image: &[u8], change: Change) -> Result<Vec<u8>, AllocError> {
-    let mut bytes = Vec::from_slice(alloc, image)?;
+fn changed(alloc: Global, file: &[u8], change: Change) -> Result<Vec<u8>, AllocError> {
+    let mut bytes = Vec::from_slice(alloc, file)?;
     match change {
         Change::Nothing => {}
         Change::Byte(offset, byte) => {
@@ -209,6 +211,7 @@ fn changed(alloc: Global, image: &[u8], change: Change) -> Result<Vec<u8>, Alloc
             }
         }
         Change::CutTo(len) => bytes.truncate(len),
+        Change::OneMore => bytes.push(0)?,
     }
     Ok(bytes)
 }
@@ -358,6 +361,225 @@ fn runs(rt: HostRuntime) -> Result<(), Fail> {
         );
         assert_eq!(rt; out.taken(), printed.as_bytes(), "{line}");
         assert_eq!(rt; files.held("o"), written, "{line}");
+    }
+    Ok(())
+}
+
+// A store that holds a text and its object, changed.
+fn object_files(
+    alloc: Global,
+    text: &str,
+    change: Change,
+    fail: &[u64],
+) -> Result<MemoryFiles, Fail> {
+    let mut files = one_file(alloc, "h.g", text.as_bytes(), &[])?;
+    let mut out = MemorySink::new(Vec::new(alloc));
+    plain(
+        alloc,
+        &words_of(alloc, "lgen h.g h.o")?,
+        &mut files,
+        &mut out,
+    );
+    let object = changed(alloc, files.held("h.o").unwrap_or(b""), change)?;
+    let held = vec![in alloc;
+        (
+            String::from_str(alloc, "h.g")?,
+            Vec::from_slice(alloc, text.as_bytes())?,
+        ),
+        (String::from_str(alloc, "h.o")?, object),
+    ]?;
+    Ok(MemoryFiles::new(held, Vec::from_slice(alloc, fail)?))
+}
+
+const SHOWN: &str =
+    "int main ()\n{\n  __builtin_putchar (72);\n  __builtin_putchar (105);\n  return 7;\n}\n";
+
+const ARRAY: &str = "static int A[3] = {5, 0, 0};";
+
+// Each answer of `lgen` and `show`: a text to its object, which is shown again, and each refusal.
+#[test]
+fn objects(rt: HostRuntime) -> Result<(), Fail> {
+    let alloc = rt.alloc();
+    let none: &[u64] = &[];
+    let lgen = "lgen h.g o";
+    let show = "show h.o";
+    let same = Change::Nothing;
+    let rows = [
+        (lgen, TEXT, same, none, none, 0, "", Some(672)),
+        (lgen, ARRAY, same, none, none, 0, "", Some(648)),
+        (lgen, "", same, none, none, 0, "", Some(640)),
+        (
+            lgen,
+            "x = 1",
+            same,
+            none,
+            none,
+            9,
+            "9 text 1 Syntax\n",
+            None,
+        ),
+        (
+            lgen,
+            "int main () {\n  int x;\n  x = 1;\n}",
+            same,
+            none,
+            none,
+            9,
+            "9 text 1 OpenEnd\n",
+            None,
+        ),
+        ("lgen h.g", TEXT, same, none, none, 2, "2 words\n", None),
+        ("lgen x o", TEXT, same, none, none, 5, "5 read x\n", None),
+        (lgen, TEXT, same, &[0], none, 5, "5 read h.g\n", None),
+        (lgen, TEXT, same, &[1], none, 6, "6 write o\n", None),
+        (show, TEXT, same, none, none, 0, SHOWN, None),
+        (
+            show,
+            ARRAY,
+            same,
+            none,
+            none,
+            0,
+            "static int A[3] = {5};\n",
+            None,
+        ),
+        (show, "", same, none, &[0], 0, "", None),
+        (
+            show,
+            TEXT,
+            Change::OneMore,
+            none,
+            none,
+            3,
+            "3 object 0 Trailing 672\n",
+            None,
+        ),
+        (
+            show,
+            TEXT,
+            Change::Byte(0, 0),
+            none,
+            none,
+            3,
+            "3 object 0 NotElf 0\n",
+            None,
+        ),
+        (
+            show,
+            TEXT,
+            Change::Byte(64, 9),
+            none,
+            none,
+            3,
+            "3 object 0 BadVersion 64\n",
+            None,
+        ),
+        (
+            show,
+            TEXT,
+            Change::Byte(88, 11),
+            none,
+            none,
+            3,
+            "3 object 0 BadStream 88\n",
+            None,
+        ),
+        (
+            show,
+            TEXT,
+            Change::Byte(97, 2),
+            none,
+            none,
+            3,
+            "3 object 0 TypeFault WrongType 0 2\n",
+            None,
+        ),
+        (
+            show,
+            TEXT,
+            Change::Byte(104, 0xf1),
+            none,
+            none,
+            3,
+            "3 object 0 SummaryDiffers 0\n",
+            None,
+        ),
+        (
+            show,
+            TEXT,
+            Change::Byte(114, 2),
+            none,
+            none,
+            3,
+            "3 object 0 SymbolsDiffer 0\n",
+            None,
+        ),
+        ("show h.o o", TEXT, same, none, none, 2, "2 words\n", None),
+        ("show", TEXT, same, none, none, 2, "2 words\n", None),
+        ("show x", TEXT, same, none, none, 5, "5 read x\n", None),
+        (show, TEXT, same, &[0], none, 5, "5 read h.o\n", None),
+        (show, TEXT, same, none, &[0], 6, "6 write -\n", None),
+        (
+            show,
+            TEXT,
+            Change::OneMore,
+            none,
+            &[0],
+            3,
+            "6 write -\n",
+            None,
+        ),
+    ];
+    for (line, text, change, fail_files, fail_puts, status, printed, written) in rows {
+        let words = words_of(alloc, line)?;
+        let mut files = object_files(alloc, text, change, fail_files)?;
+        let mut out = MemorySink::new(Vec::from_slice(alloc, fail_puts)?);
+        assert_eq!(rt;
+            plain(alloc, &words, &mut files, &mut out),
+            status,
+            "{line}"
+        );
+        assert_eq!(rt; out.taken(), printed.as_bytes(), "{line}");
+        assert_eq!(rt;
+            files.held("o").map(|object| object.len()),
+            written,
+            "{line}"
+        );
+        assert_eq!(rt; files.held("h.g"), Some(text.as_bytes()), "{line}");
+    }
+    Ok(())
+}
+
+// The streams of the first row's object where they stand in the file: declarations, bodies, summaries and symbols.
+#[test]
+fn streams(rt: HostRuntime) -> Result<(), Fail> {
+    let alloc = rt.alloc();
+    let files = object_files(alloc, TEXT, Change::Nothing, &[])?;
+    let object = files.held("h.o").ok_or("no object")?;
+    let rows: [(usize, &[u8]); 4] = [
+        (72, b"\x00\x00\x01\x01\x01\x04main\x00\x00\x00"),
+        (88, b"\x0a\x03\x10\x01\x48\x10\x01\x69\x06\x01\x07"),
+        (104, b"\xf0\x01\x00\x00\x00"),
+        (112, b"\x01\x01\x01\x04main"),
+    ];
+    for (offset, stream) in rows {
+        let found = object.get(offset..).unwrap_or(b"");
+        assert_eq!(rt; found.get(..stream.len()), Some(stream));
+    }
+    Ok(())
+}
+
+// The first row's object, cut at each byte.
+#[test]
+fn cuts(rt: HostRuntime) -> Result<(), Fail> {
+    let alloc = rt.alloc();
+    let words = words_of(alloc, "show h.o")?;
+    for len in 0_usize..672 {
+        let mut files = object_files(alloc, TEXT, Change::CutTo(len), &[])?;
+        let mut out = MemorySink::new(Vec::new(alloc));
+        assert_eq!(rt; plain(alloc, &words, &mut files, &mut out), 3);
+        let line = format!(in alloc; "3 object 0 Truncated {len}\n")?;
+        assert_eq!(rt; out.taken(), line.as_bytes());
     }
     Ok(())
 }

@@ -8,7 +8,6 @@ ghost use Rattle.whopr_top.specs.Outputs.{Done, Faithful, CutShort, Refused, IsV
 ghost use Rattle.whopr_top.specs.Answers.{Exactly, is_status, is_early, lines_of, IsQuiet, PutsLine};
 
 use crate::attempt::attempt;
-use crate::printed::Printed;
 use crate::report::{report, tell};
 use outer_files::{FileStore, Sink};
 use std::alloc::Global;
@@ -19,6 +18,8 @@ pub const FILE_BYTES: u64 = 16 << 20;
 /// Does one command and answers its status; the words do not hold the program's name. So far there are
 ///
 /// - `cc IN OUT`, which compiles the text IN to the image OUT and prints nothing;
+/// - `lgen IN OUT`, which writes the object of the text IN to OUT and prints nothing;
+/// - `show OBJ`, which prints the canonical text of the module of the object OBJ and writes nothing;
 /// - `run IMAGE STEPS INPUT OUT`, which runs the image for at most STEPS steps on the bytes of INPUT, writes its output to OUT,
 ///   and prints `running`, `ended S` or `trapped A`, with the status or the address in decimal.
 ///
@@ -26,6 +27,7 @@ pub const FILE_BYTES: u64 = 16 << 20;
 /// |---|---|---|
 /// | 0 | | the command was done |
 /// | 2 | `2 words` | the words are no command |
+/// | 3 | `3 object 0 KIND ..` | the object has a fault; its first, and where it is |
 /// | 4 | `4 limit FileBytes 16777217 16777216` | a file that is read has more than 16 MiB |
 /// | 5 | `5 read NAME` | the file could not be read |
 /// | 6 | `6 write NAME` | the file could not be written; `-` is the sink |
@@ -42,6 +44,7 @@ pub fn plain<F: FileStore, K: Sink>(
     // Each answer has its cause. Want of memory, 7, is free.
     ensures answers { IsTrue (is_status result) }
     ensures words { Exactly 2 result ((command_of (words_of words.now)) ≡ None) }
+    ensures object { ForSome (F.held files.old) (λ held. result ≢ 5 → Exactly 3 result (Refused 3 FILE_BYTES held (command_of (words_of words.now)))) }
     ensures limit { ForSome (F.held files.old) (λ held. result ≢ 5 → Exactly 4 result (IsSomeAnd (command_of (words_of words.now)) (λ c. IsOverLimit FILE_BYTES held (reads_of c)))) }
     ensures absent { ForSome (F.held files.old) (λ held. IsSomeAnd (command_of (words_of words.now)) (λ c. IsAbsent FILE_BYTES held (reads_of c)) → (result ≡ 5) ⊎ (result ≡ 7)) }
     ensures text { ForSome (F.held files.old) (λ held. result ≢ 5 → Exactly 9 result (Refused 9 FILE_BYTES held (command_of (words_of words.now)))) }
@@ -59,7 +62,7 @@ pub fn plain<F: FileStore, K: Sink>(
     // An image that was compiled can be loaded and does, on every input, what the program of its text does.
     ensures follows { result ≡ 0 → WhereTold (F.held files.old) (F.held files.new) (Faithful (command_of (words_of words.now))) }
 
-    // What the files hold then. Where the sink fails at the text of a command that was done, its file is written.
+    // What the files hold then. Where the sink fails at the text of a command that was done, its files are written.
     ensures done { result ≡ 0 → WhereTold (F.held files.old) (F.held files.new) (Done FILE_BYTES (command_of (words_of words.now))) }
     ensures cut_short { result ≡ 6 → WhereTold (F.held files.old) (F.held files.new) (CutShort FILE_BYTES (command_of (words_of words.now)))
         ⊎ (Rose (K.known out.old).faults (K.known out.new).faults × ¬ IsQuiet (command_of (words_of words.now)) × WhereTold (F.held files.old) (F.held files.new) (Done FILE_BYTES (command_of (words_of words.now)))) }
@@ -67,13 +70,12 @@ pub fn plain<F: FileStore, K: Sink>(
     ensures memory { result ≡ 7 → (F.held files.new ≡ F.held files.old) ⊎ WhereTold (F.held files.old) (F.held files.new) (CutShort FILE_BYTES (command_of (words_of words.now)))
         ⊎ WhereTold (F.held files.old) (F.held files.new) (Done FILE_BYTES (command_of (words_of words.now))) }
 
-    // What was put: all that a command prints in one put, and nothing by a command that is quiet.
+    // What was put: all that a command prints in one put, and nothing where that is nothing.
     ensures quiet { result ≡ 0 → IsQuiet (command_of (words_of words.now)) → out.new ≡ out.old }
     ensures printed { PutsLine FILE_BYTES (F.held files.old) (command_of (words_of words.now)) result (K.known out.old) (K.known out.new) }
 {
     match attempt(alloc, words, files) {
-        Ok(Printed::Nothing) => 0,
-        Ok(Printed::Stood(state)) => tell(alloc, state, out),
+        Ok(text) => tell(&text, out),
         Err(refusal) => report(alloc, refusal, out),
     }
 }
@@ -88,6 +90,7 @@ pub fn whopr<F: FileStore, K: Sink>(
     // Each answer has its cause. Want of memory, 7, is free.
     ensures answers { IsTrue (is_status result) }
     ensures words { Exactly 2 result ((command_of (words_of words.now)) ≡ None) }
+    ensures object { ForSome (F.held files.old) (λ held. result ≢ 5 → Exactly 3 result (Refused 3 FILE_BYTES held (command_of (words_of words.now)))) }
     ensures limit { ForSome (F.held files.old) (λ held. result ≢ 5 → Exactly 4 result (IsSomeAnd (command_of (words_of words.now)) (λ c. IsOverLimit FILE_BYTES held (reads_of c)))) }
     ensures absent { ForSome (F.held files.old) (λ held. IsSomeAnd (command_of (words_of words.now)) (λ c. IsAbsent FILE_BYTES held (reads_of c)) → (result ≡ 5) ⊎ (result ≡ 7)) }
     ensures text { ForSome (F.held files.old) (λ held. result ≢ 5 → Exactly 9 result (Refused 9 FILE_BYTES held (command_of (words_of words.now)))) }
@@ -105,7 +108,7 @@ pub fn whopr<F: FileStore, K: Sink>(
     // An image that was compiled can be loaded and does, on every input, what the program of its text does.
     ensures follows { result ≡ 0 → WhereTold (F.held files.old) (F.held files.new) (Faithful (command_of (words_of words.now))) }
 
-    // What the files hold then. Where the sink fails at the text of a command that was done, its file is written.
+    // What the files hold then. Where the sink fails at the text of a command that was done, its files are written.
     ensures done { result ≡ 0 → WhereTold (F.held files.old) (F.held files.new) (Done FILE_BYTES (command_of (words_of words.now))) }
     ensures cut_short { result ≡ 6 → WhereTold (F.held files.old) (F.held files.new) (CutShort FILE_BYTES (command_of (words_of words.now)))
         ⊎ (Rose (K.known out.old).faults (K.known out.new).faults × ¬ IsQuiet (command_of (words_of words.now)) × WhereTold (F.held files.old) (F.held files.new) (Done FILE_BYTES (command_of (words_of words.now)))) }
@@ -113,7 +116,7 @@ pub fn whopr<F: FileStore, K: Sink>(
     ensures memory { result ≡ 7 → (F.held files.new ≡ F.held files.old) ⊎ WhereTold (F.held files.old) (F.held files.new) (CutShort FILE_BYTES (command_of (words_of words.now)))
         ⊎ WhereTold (F.held files.old) (F.held files.new) (Done FILE_BYTES (command_of (words_of words.now))) }
 
-    // What was put: all that a command prints in one put, and nothing by a command that is quiet.
+    // What was put: all that a command prints in one put, and nothing where that is nothing.
     ensures quiet { result ≡ 0 → IsQuiet (command_of (words_of words.now)) → out.new ≡ out.old }
     ensures printed { PutsLine FILE_BYTES (F.held files.old) (command_of (words_of words.now)) result (K.known out.old) (K.known out.new) }
 {

@@ -14,6 +14,13 @@ pub enum Command<'a> {
         input: &'a str,
         out: &'a str,
     },
+    /// Writes the object of the text `input` to `out`.
+    Lgen {
+        input: &'a str,
+        out: &'a str,
+    },
+    /// Prints the module of `object`.
+    Show { object: &'a str },
     /// Runs `image` for at most `steps` steps with the bytes of `input`, and writes its output to `out`.
     Run {
         image: &'a str,
@@ -29,7 +36,8 @@ pub fn read_words(words: &[String]) -> Option<Command<'_>>
         (λ command. command_of (words_of words.now) ≡ Some (spoken_of command)) }
 {
     match words {
-        [verb, input, out] => cc(verb.as_str(), input.as_str(), out.as_str()),
+        [verb, object] => show(verb.as_str(), object.as_str()),
+        [verb, input, out] => made_from(verb.as_str(), input.as_str(), out.as_str()),
         [verb, image, steps, input, out] => run(
             verb.as_str(),
             image.as_str(),
@@ -41,13 +49,26 @@ pub fn read_words(words: &[String]) -> Option<Command<'_>>
     }
 }
 
-fn cc<'a>(verb: &str, input: &'a str, out: &'a str) -> Option<Command<'a>>
-    ensures { option_map spoken_of result ≡ command_of (verb.now ∷ input.now ∷ out.now ∷ []) }
+fn show<'a>(verb: &str, object: &'a str) -> Option<Command<'a>>
+    ensures { option_map spoken_of result ≡ command_of (verb.now ∷ object.now ∷ []) }
 {
-    if verb == "cc" && is_file_name(input) && is_file_name(out) {
-        Some(Command::Cc { input, out })
+    if verb == "show" && is_file_name(object) {
+        Some(Command::Show { object })
     } else {
         None
+    }
+}
+
+fn made_from<'a>(verb: &str, input: &'a str, out: &'a str) -> Option<Command<'a>>
+    ensures { option_map spoken_of result ≡ command_of (verb.now ∷ input.now ∷ out.now ∷ []) }
+{
+    if !is_file_name(input) || !is_file_name(out) {
+        return None;
+    }
+    match verb {
+        "cc" => Some(Command::Cc { input, out }),
+        "lgen" => Some(Command::Lgen { input, out }),
+        _ => None,
     }
 }
 

@@ -1,7 +1,8 @@
 use Rattle.std.proofs.Common.{Err, ap, refl, arith, [], ◌∷◌}
 use Rattle.std.proofs.lemmas.Grind.{common_steps}
-use Rattle.whopr_top.proofs.Judging.{one_read, refused, done, cut_short, text_faults, text_judged}
-use Rattle.whopr_top.specs.Judgements.{Refuses, Gives, line}
+use Rattle.whopr_top.proofs.Judging.{one_read, one_written, one_cut_short, refused, done, cut_short, text_faults, text_judged, image_given}
+use Rattle.whopr_top.specs.Lines.{line}
+use Rattle.whopr_top.specs.Judgements.{Refuses}
 use Rattle.std.specs.Prelude.{codes}
 use Rattle.whopr_top.proofs.attempt.cc.Goals as goal
 
@@ -9,28 +10,26 @@ pub returns-in-Err-Fault-clause-judged : goal.returns-in-Err-Fault-clause-judged
 returns-in-Err-Fault-clause-judged g c =
     rw c.in-Err-Fault.field-0-is (refused _ _ _ _ _ _ 9 _ (c.in-Ok.text.items ∷ []) (λ is. grind (arith, is)) (λ is. grind (arith, is))
     (one_read _ _ _ _ c.in-Ok.ensures.bytes (grind (arith, common_steps, c.in-Ok.ensures.within)))
-    (text_faults c.in-Ok.text.items _ (rw (c.in-Err-Fault.field-0-is, c.deref.ensures.value) at c.in-Err-Fault.ensures.exact)))
+    (text_faults _ c.in-Ok.text.items _ (rw (c.in-Err-Fault.field-0-is, c.deref.ensures.value) at c.in-Err-Fault.ensures.exact)))
 
 pub returns-in-Err-NotOfForm-clause-judged : goal.returns-in-Err-NotOfForm-clause-judged
 returns-in-Err-NotOfForm-clause-judged g c =
     refused _ _ _ _ _ _ 13 _ (c.in-Ok.text.items ∷ []) (λ is. grind (arith, is)) (λ is. grind (arith, is))
     (one_read _ _ _ _ c.in-Ok.ensures.bytes (grind (arith, common_steps, c.in-Ok.ensures.within)))
-    (text_judged c.in-Ok.text.items _ (Refuses 13 (line (codes "13 unbuilt"))) (rw c.deref.ensures.value at c.in-Ok-read_module.ensures.exact)
+    (text_judged _ c.in-Ok.text.items _ (Refuses 13 (line (codes "13 unbuilt"))) (rw c.deref.ensures.value at c.in-Ok-read_module.ensures.exact)
     (refl, refl, rw c.deref-2.ensures.value at c.in-Err-NotOfForm.ensures.not_of_form (ap Err c.in-Err-NotOfForm.field-0-is)))
 
 pub returns-in-Ok-write_all-clause-judged : goal.returns-in-Ok-write_all-clause-judged
 returns-in-Ok-write_all-clause-judged g c =
-    done _ _ _ _ _ _ _ c.in-Ok-compile.image.items _ (c.in-Ok.text.items ∷ []) c.read_all.ensures.unchanged
+    done _ _ _ _ _ _ _ _ _ (c.in-Ok.text.items ∷ []) c.read_all.ensures.unchanged
     (one_read _ _ _ _ c.in-Ok.ensures.bytes (grind (arith, common_steps, c.in-Ok.ensures.within)))
-    (text_judged c.in-Ok.text.items _ (Gives c.in-Ok-compile.image.items []) (rw c.deref.ensures.value at c.in-Ok-read_module.ensures.exact)
-    (rw c.deref-2.ensures.value at c.in-Ok-compile.ensures.ok, refl))
-    (rw c.deref-3.ensures.value at c.in-Ok-write_all.ensures.written)
+    (image_given c.args.out.now c.in-Ok.text.items c.in-Ok-compile.image.items _ _ (rw c.deref.ensures.value at c.in-Ok-read_module.ensures.exact) (rw c.deref-2.ensures.value at c.in-Ok-compile.ensures.ok) c.new.ensures.items)
+    (one_written _ _ c.args.out.now c.in-Ok-compile.image.items (rw c.deref-3.ensures.value at c.in-Ok-write_all.ensures.written))
 
 pub returns-in-Err-Failed-write_all-clause-judged : goal.returns-in-Err-Failed-write_all-clause-judged
 returns-in-Err-Failed-write_all-clause-judged g c =
-    cut_short _ _ _ _ _ _ _ c.in-Ok-compile.image.items [] _ (c.in-Ok.text.items ∷ []) c.read_all.ensures.unchanged
+    cut_short _ _ _ _ _ _ _ _ [] _ (c.in-Ok.text.items ∷ []) c.read_all.ensures.unchanged
     (one_read _ _ _ _ c.in-Ok.ensures.bytes (grind (arith, common_steps, c.in-Ok.ensures.within)))
-    (text_judged c.in-Ok.text.items _ (Gives c.in-Ok-compile.image.items []) (rw c.deref.ensures.value at c.in-Ok-read_module.ensures.exact)
-    (rw c.deref-2.ensures.value at c.in-Ok-compile.ensures.ok, refl))
-    (rw c.deref-3.ensures.value at c.in-Err-Failed-write_all.ensures.cut_short (ap Err c.in-Err-Failed-write_all.field-0-is))
+    (image_given c.args.out.now c.in-Ok.text.items c.in-Ok-compile.image.items [] _ (rw c.deref.ensures.value at c.in-Ok-read_module.ensures.exact) (rw c.deref-2.ensures.value at c.in-Ok-compile.ensures.ok) refl)
+    (one_cut_short _ _ c.args.out.now c.in-Ok-compile.image.items (rw c.deref-3.ensures.value at c.in-Err-Failed-write_all.ensures.cut_short (ap Err c.in-Err-Failed-write_all.field-0-is)))
     (omega (arith, c.in-Err-Failed-write_all.ensures.failed (ap Err c.in-Err-Failed-write_all.field-0-is), c.read_all.ensures.never_falls))

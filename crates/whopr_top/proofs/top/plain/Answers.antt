@@ -1,12 +1,21 @@
 use Rattle.std.proofs.Common.{inr, refl, arith}
-use Rattle.whopr_top.proofs.Telling.{told, reported, six_rose, exactly_kept, fault_kept, not_done, counts}
+use Rattle.whopr_top.proofs.Telling.{told, reported, six_rose, exactly_kept, fault_kept, not_done, refusal_is_some, counts}
 use Rattle.whopr_top.proofs.top.plain.Goals as goal
 
-pub returns-in-Ok-Stood-clause-cut_short : goal.returns-in-Ok-Stood-clause-cut_short
-returns-in-Ok-Stood-clause-cut_short g c = λ six. inr (six_rose _ _ _ _ c.tell.ensures.printed six, rw c.in-Ok-Stood.field-0-is at c.in-Ok-Stood.ensures.quiet, c.in-Ok-Stood.ensures.judged.done refl)
+pub returns-in-Ok-clause-write : goal.returns-in-Ok-clause-write
+returns-in-Ok-clause-write g c = λ six. inr (six_rose _ _ _ _ _ (rw c.deref.ensures.value at c.tell.ensures.printed) c.in-Ok.ensures.quiet six)
 
-pub returns-in-Ok-Stood-clause-printed : goal.returns-in-Ok-Stood-clause-printed
-returns-in-Ok-Stood-clause-printed g c = told _ _ _ _ _ _ _ _ _ _ (rw c.in-Ok-Stood.field-0-is at c.in-Ok-Stood.ensures.lined) (rw c.in-Ok-Stood.field-0-is at c.in-Ok-Stood.ensures.judged) c.tell.ensures.printed
+pub returns-in-Ok-clause-counting : goal.returns-in-Ok-clause-counting
+returns-in-Ok-clause-counting g c =
+    counts _ _ _ _ _ c.tell.ensures.status c.in-Ok.ensures.counted.counting (six_rose _ _ _ _ _ (rw c.deref.ensures.value at c.tell.ensures.printed) c.in-Ok.ensures.quiet)
+
+pub returns-in-Ok-clause-cut_short : goal.returns-in-Ok-clause-cut_short
+returns-in-Ok-clause-cut_short g c =
+    λ six. let rose = six_rose _ _ _ _ _ (rw c.deref.ensures.value at c.tell.ensures.printed) c.in-Ok.ensures.quiet six in
+    inr (rose.0, rose.1, c.in-Ok.ensures.judged.done refl)
+
+pub returns-in-Ok-clause-printed : goal.returns-in-Ok-clause-printed
+returns-in-Ok-clause-printed g c = told _ _ _ _ _ _ _ _ _ _ c.in-Ok.ensures.lined c.in-Ok.ensures.judged (rw c.deref.ensures.value at c.tell.ensures.printed)
 
 pub returns-in-Err-clause-limit : goal.returns-in-Err-clause-limit
 returns-in-Err-clause-limit g c = λ held told. exactly_kept 4 _ _ _ c.report.ensures.status (λ is. grind (arith, is)) (c.in-Err.ensures.attempt.over held told)
@@ -16,12 +25,4 @@ returns-in-Err-clause-absent g c = λ held told absent. fault_kept _ _ c.report.
 
 pub returns-in-Err-clause-printed : goal.returns-in-Err-clause-printed
 returns-in-Err-clause-printed g c =
-    reported _ _ _ _ _ _ _ _ _ _ _ (not_done c.in-Err.refusal) c.in-Err.ensures.lined c.in-Err.ensures.judged c.report.ensures.printed
-
-pub returns-in-Ok-Stood-clause-write : goal.returns-in-Ok-Stood-clause-write
-returns-in-Ok-Stood-clause-write g c = λ six. inr (six_rose _ _ _ _ c.tell.ensures.printed six, rw c.in-Ok-Stood.field-0-is at c.in-Ok-Stood.ensures.quiet)
-
-pub returns-in-Ok-Stood-clause-counting : goal.returns-in-Ok-Stood-clause-counting
-returns-in-Ok-Stood-clause-counting g c =
-    counts _ _ _ _ _ c.tell.ensures.status c.in-Ok-Stood.ensures.counted.counting (six_rose _ _ _ _ c.tell.ensures.printed)
-    (rw c.in-Ok-Stood.field-0-is at c.in-Ok-Stood.ensures.quiet)
+    reported _ _ _ _ _ _ _ _ _ _ _ (not_done c.in-Err.refusal) (refusal_is_some c.in-Err.refusal) c.in-Err.ensures.lined c.in-Err.ensures.judged c.report.ensures.printed

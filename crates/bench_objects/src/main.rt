@@ -1,0 +1,83 @@
+//! `bench_objects HOW SEED COUNT TIMES` generates the modules of COUNT functions from the seed, prints each as a text of its own
+//! and makes its object. Then it makes each object from its text again TIMES times (`lgen`), or each text from its object
+//! (`show`). It prints how many bytes the texts and the objects have, and how many were made again and differ.
+#![tactic(auto)]
+
+use anyhow::{Result, bail};
+use gimple_print::print_module;
+use gimple_syntax::read_module;
+use lto_object::{lgen, read_object};
+use std::alloc::Global;
+use text_laws::read_is_checked;
+use workload_gen::generate;
+
+fn main(rt: HostRuntime) -> Result<()> {
+    let mut words = std::env::args(&rt)?.skip(1);
+    let (Some(how), Some(seed), Some(count), Some(times)) = (
+        words.next(),
+        words.next(),
+        words.next(),
+        words.next(),
+    ) else {
+        bail!("give lgen or show, a seed, the number of functions, and how often");
+    };
+    let modules = generate(rt.alloc(), seed.parse::<u64>()?, count.parse::<u32>()?)?;
+    let times = times.parse::<u32>()?;
+    let shows = how.as_str() == "show";
+    let (mut texts, mut objects, mut differ) = (0usize, 0usize, 0u64);
+    for source in modules.as_slice() {
+        let text = print_module(rt.alloc(), source)?;
+        let object = object_of(rt.alloc(), &text)?;
+        texts = texts.saturating_add(text.len());
+        objects = objects.saturating_add(object.len());
+        let found = if shows {
+            texts_differ(rt.alloc(), &object, &text, times)?
+        } else {
+            objects_differ(rt.alloc(), &text, &object, times)?
+        };
+        differ = differ.saturating_add(found);
+    }
+    println!(rt; "texts {texts}, objects {objects} bytes, {differ} differ")?;
+    Ok(())
+}
+
+// The object of a text.
+fn object_of(alloc: Global, text: &[u8]) -> Result<Vec<u8>> {
+    if text.len() >= u32::MAX as usize {
+        bail!("a text has more than 2^32 - 2 bytes");
+    }
+    let source = read_module(alloc, text)?;
+    read_is_checked();
+    Ok(lgen(alloc, &source)?)
+}
+
+// The text of an object's module.
+fn text_of(alloc: Global, object: &[u8]) -> Result<Vec<u8>> {
+    if object.len() >= u32::MAX as usize {
+        bail!("an object has more than 2^32 - 2 bytes");
+    }
+    let found = read_object(alloc, object)?;
+    Ok(print_module(alloc, found.module())?)
+}
+
+// How many of so many objects of the text are another one.
+fn objects_differ(alloc: Global, text: &[u8], object: &[u8], times: u32) -> Result<u64> {
+    let mut differ = 0u64;
+    for _ in 0..times {
+        if object_of(alloc, text)?.as_slice() != object {
+            differ = differ.saturating_add(1);
+        }
+    }
+    Ok(differ)
+}
+
+// How many of so many texts of the object are another one.
+fn texts_differ(alloc: Global, object: &[u8], text: &[u8], times: u32) -> Result<u64> {
+    let mut differ = 0u64;
+    for _ in 0..times {
+        if text_of(alloc, object)?.as_slice() != text {
+            differ = differ.saturating_add(1);
+        }
+    }
+    Ok(differ)
+}

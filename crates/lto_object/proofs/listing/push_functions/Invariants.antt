@@ -1,0 +1,7 @@
+use Rattle.std.proofs.Common.{◌≡◌, ◌++◌, take}
+use Rattle.std.specs.List.{flat_map}
+use Rattle.lto_object.specs.Objects.{functions_in}
+use Rattle.lto_object.proofs.listing.push_functions.Given as goal
+
+abbrev pub invariant-loop-statement : goal.invariant-loop-statement
+invariant-loop-statement l = l.named.items ≡ l.fn.named.items ++ flat_map functions_in (take l.statement-index l.body)

@@ -1,0 +1,25 @@
+use Rattle.std.proofs.Common.{Err, ap, refl, arith, [], ◌∷◌}
+use Rattle.std.proofs.lemmas.Grind.{common_steps}
+use Rattle.whopr_top.proofs.Judging.{one_read, one_written, one_cut_short, refused, done, cut_short, lgen_faults, lgen_gives}
+use Rattle.whopr_top.proofs.attempt.lgen.Goals as goal
+
+pub returns-in-Err-Fault-clause-judged : goal.returns-in-Err-Fault-clause-judged
+returns-in-Err-Fault-clause-judged g c =
+    rw c.in-Err-Fault.field-0-is (refused _ _ _ _ _ _ 9 _ (c.in-Ok.text.items ∷ []) (λ is. grind (arith, is)) (λ is. grind (arith, is))
+    (one_read _ _ _ _ c.in-Ok.ensures.bytes (grind (arith, common_steps, c.in-Ok.ensures.within)))
+    (lgen_faults _ c.in-Ok.text.items _ (rw (c.in-Err-Fault.field-0-is, c.deref.ensures.value) at c.in-Err-Fault.ensures.exact)))
+
+pub returns-in-Ok-write_all-clause-judged : goal.returns-in-Ok-write_all-clause-judged
+returns-in-Ok-write_all-clause-judged g c =
+    done _ _ _ _ _ _ _ _ _ (c.in-Ok.text.items ∷ []) c.read_all.ensures.unchanged
+    (one_read _ _ _ _ c.in-Ok.ensures.bytes (grind (arith, common_steps, c.in-Ok.ensures.within)))
+    (lgen_gives c.args.out.now c.in-Ok.text.items c.in-Ok-object_of.object.items _ _ (rw c.deref.ensures.value at c.in-Ok-read_module.ensures.exact) c.in-Ok-object_of.ensures c.new.ensures.items)
+    (one_written _ _ c.args.out.now c.in-Ok-object_of.object.items (rw c.deref-3.ensures.value at c.in-Ok-write_all.ensures.written))
+
+pub returns-in-Err-Failed-write_all-clause-judged : goal.returns-in-Err-Failed-write_all-clause-judged
+returns-in-Err-Failed-write_all-clause-judged g c =
+    cut_short _ _ _ _ _ _ _ _ [] _ (c.in-Ok.text.items ∷ []) c.read_all.ensures.unchanged
+    (one_read _ _ _ _ c.in-Ok.ensures.bytes (grind (arith, common_steps, c.in-Ok.ensures.within)))
+    (lgen_gives c.args.out.now c.in-Ok.text.items c.in-Ok-object_of.object.items [] _ (rw c.deref.ensures.value at c.in-Ok-read_module.ensures.exact) c.in-Ok-object_of.ensures refl)
+    (one_cut_short _ _ c.args.out.now c.in-Ok-object_of.object.items (rw c.deref-3.ensures.value at c.in-Err-Failed-write_all.ensures.cut_short (ap Err c.in-Err-Failed-write_all.field-0-is)))
+    (omega (arith, c.in-Err-Failed-write_all.ensures.failed (ap Err c.in-Err-Failed-write_all.field-0-is), c.read_all.ensures.never_falls))

@@ -1,0 +1,132 @@
+// The lines that commands print.
+ghost use Rattle.std.specs.Prelude.{◌≡◌, ◌++◌, IfOk, OnOk, [], string_bytes, decimal};
+ghost use Rattle.rv64_meaning.specs.Standings.{outcome_by};
+ghost use Rattle.whopr_top.specs.Lines.{outcome_line, check_word, kind_word, text_line, object_word, object_place, object_line, spaced};
+
+use gimple_ir::{TypeFault, TypeKind};
+use gimple_syntax::TextKind;
+use lto_object::ObjectFault;
+use rv64_meaning::MachineState;
+use std::alloc::{AllocError, Global};
+
+/// The line that says how a machine stands.
+pub fn state_line(alloc: Global, state: MachineState) -> Result<String, AllocError>
+    ensures { IfOk result (λ line. string_bytes line ≡ outcome_line (outcome_by state [])) }
+{
+    match state {
+        MachineState::Running => format!(in alloc; "running\n"),
+        MachineState::Ended(status) => format!(in alloc; "ended {status}\n"),
+        MachineState::Trapped { address } => format!(in alloc; "trapped {address}\n"),
+    }
+}
+
+fn check_word(kind: TypeKind) -> &'static str
+    ensures { result.now ≡ check_word kind }
+{
+    match kind {
+        TypeKind::DoubleName => "DoubleName",
+        TypeKind::UnknownName => "UnknownName",
+        TypeKind::TooMany => "TooMany",
+        TypeKind::BadLabel => "BadLabel",
+        TypeKind::OpenEnd => "OpenEnd",
+        TypeKind::WrongCount => "WrongCount",
+        TypeKind::WrongType => "WrongType",
+        TypeKind::NegLiteral => "NegLiteral",
+        TypeKind::BadCase => "BadCase",
+    }
+}
+
+fn kind_word(kind: TextKind) -> &'static str
+    ensures { result.now ≡ kind_word kind }
+{
+    match kind {
+        TextKind::Byte => "Byte",
+        TextKind::Syntax => "Syntax",
+        TextKind::Literal => "Literal",
+        TextKind::Check(kind) => check_word(kind),
+    }
+}
+
+/// The line of a text's first fault.
+pub fn text_line(alloc: Global, line: u32, kind: TextKind) -> Result<String, AllocError>
+    ensures { IfOk result (λ found. string_bytes found ≡ text_line line kind) }
+{
+    let mut text = format!(in alloc; "9 text {line} ")?;
+    text.push_str(kind_word(kind))?;
+    text.push_str("\n")?;
+    Ok(text)
+}
+
+fn object_word(fault: &ObjectFault) -> &'static str
+    ensures { result.now ≡ object_word fault.now }
+{
+    match fault {
+        ObjectFault::NotElf { .. } => "NotElf",
+        ObjectFault::WrongClass { .. } => "WrongClass",
+        ObjectFault::WrongMachine { .. } => "WrongMachine",
+        ObjectFault::Truncated { .. } => "Truncated",
+        ObjectFault::MissingSection { .. } => "MissingSection",
+        ObjectFault::DoubleSection { .. } => "DoubleSection",
+        ObjectFault::Compressed { .. } => "Compressed",
+        ObjectFault::BadVersion { .. } => "BadVersion",
+        ObjectFault::BadStream { .. } => "BadStream",
+        ObjectFault::Trailing { .. } => "Trailing",
+        ObjectFault::TypeFault(_) => "TypeFault",
+        ObjectFault::SummaryDiffers { .. } => "SummaryDiffers",
+        ObjectFault::SymbolsDiffer { .. } => "SymbolsDiffer",
+        ObjectFault::BadLayout { .. } => "BadLayout",
+    }
+}
+
+// Appends a number behind a space.
+fn push_number(alloc: Global, text: &mut String, number: u64) -> Result<(), AllocError>
+    ensures { OnOk result (string_bytes text.new ≡ string_bytes text.old ++ spaced (decimal number)) }
+{
+    let word = format!(in alloc; " {number}")?;
+    text.push_str(word.as_str())
+}
+
+// Appends where an object's fault is.
+fn push_place(alloc: Global, text: &mut String, fault: &ObjectFault) -> Result<(), AllocError>
+    ensures { OnOk result (string_bytes text.new ≡ string_bytes text.old ++ object_place fault.now) }
+{
+    match fault {
+        ObjectFault::NotElf { offset } => push_number(alloc, text, *offset),
+        ObjectFault::WrongClass { offset } => push_number(alloc, text, *offset),
+        ObjectFault::WrongMachine { offset } => push_number(alloc, text, *offset),
+        ObjectFault::Truncated { offset } => push_number(alloc, text, *offset),
+        ObjectFault::MissingSection { offset } => push_number(alloc, text, *offset),
+        ObjectFault::DoubleSection { offset } => push_number(alloc, text, *offset),
+        ObjectFault::Compressed { offset } => push_number(alloc, text, *offset),
+        ObjectFault::BadVersion { offset } => push_number(alloc, text, *offset),
+        ObjectFault::BadStream { offset } => push_number(alloc, text, *offset),
+        ObjectFault::Trailing { offset } => push_number(alloc, text, *offset),
+        ObjectFault::TypeFault(fault) => push_check(alloc, text, fault),
+        ObjectFault::SummaryDiffers { function, .. } => {
+            push_number(alloc, text, u64::from(*function))
+        }
+        ObjectFault::SymbolsDiffer { place } => push_number(alloc, text, u64::from(*place)),
+        ObjectFault::BadLayout { offset } => push_number(alloc, text, *offset),
+    }
+}
+
+// Appends the kind, the item and the statement of a fault of the checks.
+fn push_check(alloc: Global, text: &mut String, fault: &TypeFault) -> Result<(), AllocError>
+    ensures { OnOk result (string_bytes text.new ≡ string_bytes text.old ++ ((spaced (check_word fault.now.kind) ++ spaced (decimal fault.now.item)) ++ spaced (decimal fault.now.statement))) }
+{
+    text.push_str(" ")?;
+    text.push_str(check_word(fault.kind))?;
+    push_number(alloc, text, u64::from(fault.item))?;
+    push_number(alloc, text, u64::from(fault.statement))
+}
+
+/// The line of the first fault of the object with this number.
+pub fn object_line(alloc: Global, number: u32, fault: &ObjectFault) -> Result<String, AllocError>
+    ensures { IfOk result (λ found. string_bytes found ≡ object_line number fault.now) }
+{
+    let mut text = format!(in alloc; "3 object {number} ")?;
+    text.push_str(object_word(fault))?;
+    push_place(alloc, &mut text, fault)?;
+    text.push_str("\n")?;
+    Ok(text)
+}

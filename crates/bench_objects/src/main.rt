@@ -3,7 +3,11 @@
 //! (`show`). It prints how many bytes the texts and the objects have, and how many were made again and differ.
 #![tactic(auto)]
 
+ghost use Rattle.std.specs.Prelude.{◌<◌, ◌-◌, ◌^◌, length};
+ghost use Rattle.gimple_syntax.specs.Reading.{SpellsModule};
+
 use anyhow::{Result, bail};
+use gimple_ir::{Module, NoMemory};
 use gimple_print::print_module;
 use gimple_syntax::read_module;
 use lto_object::{lgen, read_object};
@@ -47,8 +51,16 @@ fn object_of(alloc: Global, text: &[u8]) -> Result<Vec<u8>> {
         bail!("a text has more than 2^32 - 2 bytes");
     }
     let source = read_module(alloc, text)?;
+    Ok(spelled_object(alloc, text, &source)?)
+}
+
+// The object of a module that a text spells.
+fn spelled_object(alloc: Global, text: &[u8], source: &Module) -> Result<Vec<u8>, NoMemory>
+    requires short { length text.now < 2 ^ 32 - 1 }
+    requires spelled { SpellsModule text.now source.now }
+{
     read_is_checked();
-    Ok(lgen(alloc, &source)?)
+    lgen(alloc, source)
 }
 
 // The text of an object's module.

@@ -20,7 +20,6 @@ use Rattle.gimple_ir.specs.declared.versioned.VersionedFunction.{VersionedFuncti
 use Rattle.rv64_frame.specs.declared.layout.FrameLayout.{FrameLayout}
 use Rattle.rv64_frame.specs.Frames.{outgoing_slot, slot_in, return_in, incoming_in, frame_of}
 use Rattle.rv64_abi.specs.Registers.{ra, sp, t0, t1, t2, a0, a7}
-use Rattle.rv64_select.specs.declared.item.Symbol.{Symbol}
 use Rattle.rv64_select.specs.declared.item.Symbol.TheVariants as symbols
 use Rattle.rv64_select.specs.declared.item.Item.{Item}
 use Rattle.rv64_select.specs.declared.item.Item.TheVariants.{Plain, Label, Jump, Call, Upper, Load, Store}

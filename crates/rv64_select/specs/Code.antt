@@ -1,6 +1,6 @@
 -- The two readings of a function's assembly: its code at an address, where the addresses of all symbols are known; and its code in
 -- an object, in which the fields that depend on symbols are 0.
-use Rattle.std.specs.Prelude.{ℕ, ◌+◌, ◌*◌, ◌==◌, ℤ, pos, ◌-ℤ◌, Bool, false, List, [], ◌∷◌, ◌++◌, sum_by, slice_get, unwrap_or, codes, if◌then◌else◌}
+use Rattle.std.specs.Prelude.{ℕ, ◌+◌, ◌*◌, ◌==◌, pos, ◌-ℤ◌, Bool, false, List, [], ◌∷◌, ◌++◌, sum_by, slice_get, unwrap_or, codes, if◌then◌else◌}
 use Rattle.std.specs.Option.{option_map_or}
 use Rattle.std.specs.List.{flat_map}
 use Rattle.rv64_isa.specs.declared.instr.Instr.{Instr}

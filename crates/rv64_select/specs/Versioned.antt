@@ -1,5 +1,5 @@
 -- What is asked of a version of a function: its numbers name what is there, its frame has few slots, and its code bound is in its limit.
-use Rattle.std.specs.Prelude.{ℕ, ◌+◌, ◌*◌, ◌^◌, ◌<◌, ◌≤◌, List, length, sum_by, Option, Some, None, All}
+use Rattle.std.specs.Prelude.{ℕ, ◌+◌, ◌*◌, ◌^◌, ◌<◌, ◌≤◌, length, sum_by, Option, Some, None, All}
 use Rattle.gimple_ir.specs.declared.types.Operand.{Operand}
 use Rattle.gimple_ir.specs.declared.types.Operand.TheVariants as operands
 use Rattle.gimple_ir.specs.declared.versioned.Step.{Step}

@@ -1,4 +1,4 @@
-use Rattle.std.proofs.Common.{◌≡◌, ◌≤◌, ◌++◌, [], length, map, drop, fold}
+use Rattle.std.proofs.Common.{◌≡◌, ◌≤◌, ◌++◌, length, map, drop, fold}
 use Rattle.std.specs.List.{AllByRecursion}
 use Rattle.rv64_select.specs.Versioned.{SymbolFits}
 use Rattle.rv64_select.specs.Selected.{with_reference, names_of, relocation_of}

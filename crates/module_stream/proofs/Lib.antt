@@ -1,5 +1,9 @@
 pub mod Exact
 pub mod Repeats
+pub mod TurnLaws
+pub mod SizedLaws
+pub mod Inside
+pub mod Tagged
 pub mod Tables
 pub mod NameLaws
 pub mod OperandLaws
@@ -7,3 +11,4 @@ pub mod StatementLaws
 pub mod ElementLaws
 pub mod DeclarationLaws
 pub mod BodyLaws
+pub mod FaultLaws

@@ -10,7 +10,7 @@ use Rattle.cursors.specs.Cursor.{Cursor, at, offset_of}
 use Rattle.cursors.specs.Leb128.{uleb_of}
 use Rattle.cursors.proofs.Leb128Laws.{IsBytes}
 use Rattle.cursors.proofs.Fields.{Took}
-use Rattle.gimple_ir.specs.Values.{greatest, InRange, modulus, residue, from_residue, value_of}
+use Rattle.gimple_ir.specs.Values.{greatest, InRange, IsValue, modulus, residue, from_residue, value_of}
 use Rattle.gimple_ir.proofs.Ranges.{residue-lt}
 use Rattle.gimple_ir.proofs.WellFormed.{from_residue-InRange}
 use Rattle.gimple_ir.specs.declared.types.ScalarType.{ScalarType}
@@ -23,11 +23,11 @@ use Rattle.gimple_ir.specs.declared.types.Arg.TheVariants.{One, Whole}
 use Rattle.gimple_ir.specs.declared.types.Case.{Case}
 use Rattle.module_stream.specs.declared.bounds.BodyBounds.{BodyBounds}
 use Rattle.module_stream.specs.Codes.{type_table, type_code}
-use Rattle.module_stream.specs.Fields.{value_bytes}
+use Rattle.module_stream.specs.Fields.{value_bytes, typed_value_of}
 use Rattle.module_stream.specs.Bodies.{component_count, operand_of, FitsOperand, arg_of, FitsArg, case_of, FitsCase}
-use Rattle.module_stream.specs.Readers.{byte, number_below, pick, made}
-use Rattle.module_stream.specs.BodyReading.{component_at, value_at, literal_by, operand_from, operand_at, arg_at, case_at}
-use Rattle.module_stream.proofs.Exact.{Exact, ok_is, bind_ok, Took-then, number_exact, byte_takes, byte_again, row_found, both_exact, made_takes, made_again}
+use Rattle.module_stream.specs.Readers.{byte, number_below, pick, coded, depends, made}
+use Rattle.module_stream.specs.BodyReading.{component_at, value_at, typed_value_at, literal_by, operand_from, operand_at, arg_at, case_at}
+use Rattle.module_stream.proofs.Exact.{Exact, ok_is, bind_ok, Took-then, number_exact, byte_takes, byte_again, row_found, coded_exact, both_exact, depends_exact, made_takes, made_again, made_exact}
 use Rattle.module_stream.proofs.Tables.{type_rows}
 
 -- ---- residues
@@ -80,7 +80,7 @@ modulus-le LongUnsignedInt = omega arith
 
 -- ---- values
 
-abbrev FitsValue : ScalarType → Value → Type 0
+abbrev pub FitsValue : ScalarType → Value → Type 0
 FitsValue ty v = (v.ty ≡ ty) × InRange v.ty v.num
 
 abbrev value_from : ScalarType → ℕ → Value
@@ -99,11 +99,24 @@ value_again ty num end rest h =
     made_again (number_exact (modulus ty) (modulus-le ty)) (value_from ty) (residue ty num) end rest (residue-lt ty num)
     ∙ ap (λ z. Ok (value_of ty z, at end rest)) (value_same ty num h)
 
-value_exact : (ty : ScalarType) → Exact value_bytes (FitsValue ty) (value_at ty)
+pub value_exact : (ty : ScalarType) → Exact value_bytes (FitsValue ty) (value_at ty)
 value_exact ty = record {
   takes = value_takes ty;
   again = λ v end rest h. subst (λ t. value_at t (at end (value_bytes v ++ rest)) ≡ Ok (v, at end rest)) h.0 (value_again v.ty v.num end rest h.1);
 }
+
+-- a type's code, and a value of the type
+pub typed_value_exact : Exact typed_value_of IsValue typed_value_at
+unfolding typed_value_at
+typed_value_exact = made_exact (λ (x : ScalarType × Value). x.1) typed_value_of IsValue (λ v. (v.ty, v))
+    (depends_exact (λ ty. type_code ty ∷ []) (λ _. Unit {0}) (coded type_table) (λ _. value_bytes) FitsValue value_at
+    (coded_exact type_code type_table type_rows) (λ ty _. value_exact ty))
+    (record {
+      spelled = λ x h. ap (λ ty. type_code ty ∷ value_bytes x.1) h.1.0;
+      fits = λ x h. h.1.1;
+      parts = λ v h. (tt, (refl, h));
+      back = λ v h. refl;
+    })
 
 -- ---- operands
 

@@ -1,5 +1,5 @@
 -- Statements: for each opcode, what its reader takes and what it takes again.
-use Rattle.std.proofs.Common.{◌≡◌, ℕ, ◌^◌, ◌<◌, ◌≤◌, List, [], ◌∷◌, ◌++◌, Some, None, Result, Ok, refl, sym, ap, subst}
+use Rattle.std.proofs.Common.{◌≡◌, ℕ, ◌^◌, ◌<◌, ◌≤◌, List, [], ◌∷◌, ◌++◌, Some, None, Result, Ok, refl}
 use Rattle.std.specs.Prelude.{IfOk}
 use Rattle.cursors.specs.Cursor.{Cursor, at}
 use Rattle.cursors.specs.Leb128.{uleb_of}
@@ -18,7 +18,8 @@ use Rattle.module_stream.specs.Fields.{counted_of, FitsAll}
 use Rattle.module_stream.specs.Bodies.{operand_of, FitsOperand, case_of, FitsCase, type_of, opcode_of, fields_of, Fits, statement_of, body_of, FitsBody}
 use Rattle.module_stream.specs.Readers.{Reader, GivesAll, number_below, coded, both, depends, made, counted}
 use Rattle.module_stream.specs.BodyReading.{operand_at, case_at, fields_at, statement_at, read_body}
-use Rattle.module_stream.proofs.Exact.{Exact, ok_is, bind_ok, Took-then, number_exact, coded_exact, both_exact, depends_exact, made_takes, made_again, counted_exact, whole_found, whole_again}
+use Rattle.module_stream.proofs.Exact.{Exact, number_exact, coded_exact, both_exact, depends_exact, made_again, counted_exact, whole_found, whole_again}
+use Rattle.module_stream.proofs.Tagged.{TookForm, form_takes, bare_takes, tagged_exact}
 use Rattle.module_stream.proofs.Tables.{opcode_rows, binary_rows, unary_rows}
 use Rattle.module_stream.proofs.OperandLaws.{AreCounts, component_exact, operand_exact, arg_exact, case_exact}
 
@@ -33,22 +34,11 @@ binary_op = coded_exact binary_code binary_table binary_rows
 abbrev unary_op : Exact (λ x. unary_code x ∷ []) (λ x. Unit {0}) (coded unary_table)
 unary_op = coded_exact unary_code unary_table unary_rows
 
--- What the reader of a form takes is the fields of a statement of that form.
+-- what the reader of a form takes is the fields of a statement of that form
 form : {A : Type 0} {w : A → List ℕ} {F : A → Type 0} {r : Reader A} (b : BodyBounds) (o : Opcode) (make : A → Statement) → Exact w F r
     → ((x : A) → fields_of (make x) ≡ w x) → ((x : A) → opcode_of (make x) ≡ o) → ((x : A) → F x → Fits b (make x))
-    → (c d : Cursor) (s : Statement) → IsBytes c.rest → made make r c ≡ Ok (s, d) → Took c (fields_of s) d × Fits b s × (opcode_of s ≡ o)
-form {A} {w} {F} {r} b o make law spells names fit c d s fits e =
-    let m = made_takes law make c d s fits e in
-    subst (λ z. Took c (fields_of z) d × Fits b z × (opcode_of z ≡ o)) m.3 (subst (λ t. Took c t d) (sym (spells m.0)) m.1, fit m.0 m.2, names m.0)
-
-abbrev done : Statement × Cursor → Result (Statement × Cursor) ℕ
-done x = Ok x
-
--- a form with no fields
-bare : (b : BodyBounds) (o : Opcode) (made : Statement) → fields_of made ≡ [] → opcode_of made ≡ o → Fits b made
-    → (c d : Cursor) (s : Statement) → IsBytes c.rest → done (made, c) ≡ Ok (s, d) → Took c (fields_of s) d × Fits b s × (opcode_of s ≡ o)
-bare b o made spells names fit c d s fits e =
-    subst (λ (z : Statement × Cursor). Took c (fields_of z.0) z.1 × Fits b z.0 × (opcode_of z.0 ≡ o)) (ok_is (made, c) (s, d) e) (record { parts = ap (λ (t : List ℕ). t ++ c.rest) (sym spells); end = refl; fits = fits }, fit, names)
+    → (c d : Cursor) (s : Statement) → IsBytes c.rest → made make r c ≡ Ok (s, d) → TookForm opcode_of fields_of (Fits b) o c d s
+form b o make law spells names fit = form_takes opcode_of fields_of (Fits b) o make law spells names fit
 
 -- the cases are read by the type of the operand
 switch_fields : (b : BodyBounds) → AreCounts b
@@ -57,11 +47,11 @@ switch_fields : (b : BodyBounds) → AreCounts b
 switch_fields b k = depends_exact operand_of (FitsOperand b) (operand_at b) (λ _ y. counted_of case_of y.0 ++ uleb_of y.1) (λ x y. FitsAll (FitsCase b (type_of b x)) y.0 × (y.1 < b.labels)) (λ x. both (counted (case_at b (type_of b x))) (number_below b.labels))
     (operand_exact b k) (λ x _. both_exact (counted_exact (case_exact b k (type_of b x))) (place b.labels k.labels))
 
-fields_take : (b : BodyBounds) → AreCounts b → (o : Opcode) (c d : Cursor) (s : Statement) → IsBytes c.rest → fields_at b o c ≡ Ok (s, d) → Took c (fields_of s) d × Fits b s × (opcode_of s ≡ o)
+fields_take : (b : BodyBounds) → AreCounts b → (o : Opcode) (c d : Cursor) (s : Statement) → IsBytes c.rest → fields_at b o c ≡ Ok (s, d) → TookForm opcode_of fields_of (Fits b) o c d s
 unfolding fields_at
-fields_take b k op.Nop = bare b op.Nop Nop refl refl tt
-fields_take b k op.ReturnVoid = bare b op.ReturnVoid ReturnVoid refl refl tt
-fields_take b k op.GetcharVoid = bare b op.GetcharVoid (Getchar None) refl refl tt
+fields_take b k op.Nop = bare_takes opcode_of fields_of (Fits b) op.Nop Nop refl refl tt
+fields_take b k op.ReturnVoid = bare_takes opcode_of fields_of (Fits b) op.ReturnVoid ReturnVoid refl refl tt
+fields_take b k op.GetcharVoid = bare_takes opcode_of fields_of (Fits b) op.GetcharVoid (Getchar None) refl refl tt
 fields_take b k op.Switch = form b op.Switch (λ x. Switch x.0 x.1.0 x.1.1) (switch_fields b k) (λ x. refl) (λ x. refl) (λ x h. (h.0, h.1.0, h.1.1))
 fields_take b k op.Label = form b op.Label (λ l. Label l) (place b.labels k.labels) (λ x. refl) (λ x. refl) (λ x h. h)
 fields_take b k op.Goto = form b op.Goto (λ l. Goto l) (place b.labels k.labels) (λ x. refl) (λ x. refl) (λ x h. h)
@@ -103,21 +93,9 @@ fields_again b k (Putchar x) end rest h = made_again (operand_exact b k) (λ x. 
 fields_again b k (Getchar (Some to)) end rest h = made_again (component_exact b) (λ x. Getchar (Some x)) to end rest h
 fields_again b k (Exit x) end rest h = made_again (operand_exact b k) (λ x. Exit x) x end rest h
 
-statement_takes : (b : BodyBounds) → AreCounts b → (c d : Cursor) (s : Statement) → IsBytes c.rest → statement_at b c ≡ Ok (s, d) → Took c (statement_of s) d × Fits b s
-unfolding statement_at
-statement_takes b k c d s fits e =
-    let a = bind_ok (coded opcode_table c) (λ o. fields_at b o.0 o.1) (s, d) e in
-    let t = (coded_exact opcode_code opcode_table opcode_rows).takes c a.0.1 a.0.0 fits a.1 in
-    let m = fields_take b k a.0.0 a.0.1 d s t.0.fits a.2 in
-    (subst (λ o. Took c (opcode_code o ∷ fields_of s) d) (sym m.2) (Took-then c a.0.1 d (opcode_code a.0.0 ∷ []) (fields_of s) t.0 m.0), m.1)
-
-statement_again : (b : BodyBounds) → AreCounts b → (s : Statement) (end : ℕ) (rest : List ℕ) → Fits b s → statement_at b (at end (statement_of s ++ rest)) ≡ Ok (s, at end rest)
-unfolding statement_at
-statement_again b k s end rest h =
-    rw ((coded_exact opcode_code opcode_table opcode_rows).again (opcode_of s) end (fields_of s ++ rest) tt) (fields_again b k s end rest h)
-
 pub statement_exact : (b : BodyBounds) → AreCounts b → Exact statement_of (Fits b) (statement_at b)
-statement_exact b k = record { takes = statement_takes b k; again = statement_again b k }
+unfolding statement_at
+statement_exact b k = tagged_exact opcode_code opcode_table opcode_of fields_of (Fits b) (fields_at b) opcode_rows (fields_take b k) (fields_again b k)
 
 -- a whole body
 pub body_exact : (b : BodyBounds) → AreCounts b → Exact body_of (FitsBody b) (counted (statement_at b))

@@ -1,5 +1,5 @@
 -- Each code stands in its table, and each row of a table has its code.
-use Rattle.std.proofs.Common.{◌≡◌, Some, refl}
+use Rattle.std.proofs.Common.{◌≡◌, Bool, true, false, Some, refl}
 use Rattle.gimple_ir.specs.declared.types.ScalarType.{ScalarType}
 use Rattle.gimple_ir.specs.declared.types.ScalarType.TheVariants as scalar
 use Rattle.gimple_ir.specs.declared.types.ElementType.{ElementType}
@@ -15,7 +15,7 @@ use Rattle.gimple_ir.specs.declared.types.BinaryOp.TheVariants as binary
 use Rattle.module_stream.specs.declared.codes.Opcode.{Opcode}
 use Rattle.module_stream.specs.declared.codes.Opcode.TheVariants as op
 use Rattle.module_stream.specs.Readers.{pick}
-use Rattle.module_stream.specs.Codes.{opcode_table, opcode_code, binary_table, binary_code, unary_table, unary_code, type_table, type_code, element_table, element_code, result_table, result_code, linkage_table, linkage_code}
+use Rattle.module_stream.specs.Codes.{opcode_table, opcode_code, binary_table, binary_code, unary_table, unary_code, type_table, type_code, element_table, element_code, result_table, result_code, linkage_table, linkage_code, flag_table, flag_code}
 use Rattle.module_stream.proofs.Exact.{IsTable}
 
 opcode_found : (x : Opcode) → pick (opcode_code x) opcode_table ≡ Some x
@@ -108,3 +108,10 @@ linkage_found linkage.Static = refl
 
 pub linkage_rows : IsTable linkage_code linkage_table
 linkage_rows = record { rows = (refl, (refl, (refl, (refl, tt)))); found = linkage_found }
+
+flag_found : (x : Bool) → pick (flag_code x) flag_table ≡ Some x
+flag_found false = refl
+flag_found true = refl
+
+pub flag_rows : IsTable flag_code flag_table
+flag_rows = record { rows = (refl, (refl, tt)); found = flag_found }

@@ -1,7 +1,7 @@
 //! A function's body as bytes.
-ghost use Rattle.std.specs.Prelude.{◌≡◌, ◌++◌, ℕ, List, IfOk, Ok};
+ghost use Rattle.std.specs.Prelude.{◌≡◌, ◌++◌, ℕ, List, length, IfOk, Ok};
 ghost use Rattle.gimple_ir.specs.declared.types.Statement.{Statement};
-ghost use Rattle.module_stream.specs.Readers.{GivesAll};
+ghost use Rattle.module_stream.specs.Readers.{GivesAll, IsWithin};
 ghost use Rattle.module_stream.specs.Bodies.{body_of, FitsBody};
 ghost use Rattle.module_stream.specs.BodyReading.{read_body};
 
@@ -52,6 +52,7 @@ pub fn decode_body(
 
     // Which fault it is: the first from the left.
     ensures exact { GivesAll result (read_body bounds.now bytes.now) }
+    ensures within { IsWithin (length bytes.now) result }
 {
     bounds.are_counts();
     body(alloc, bytes, bounds)

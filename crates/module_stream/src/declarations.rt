@@ -1,7 +1,7 @@
 //! A module's declarations as bytes: its structs, arrays and functions, the functions without their bodies.
 ghost use Rattle.std.specs.Prelude.{◌≡◌, ◌++◌, ◌+◌, ◌<◌, ◌^◌, length, ℕ, List, IfOk, Ok};
 ghost use Rattle.gimple_ir.specs.declared.types.Module.{Module};
-ghost use Rattle.module_stream.specs.Readers.{Gives, GivesAll};
+ghost use Rattle.module_stream.specs.Readers.{Gives, GivesAll, IsWithin};
 ghost use Rattle.gimple_ir.specs.Programs.{IsStated};
 ghost use Rattle.module_stream.specs.Declarations.{decls_of, AreDeclarations, HasCounts, without_bodies};
 ghost use Rattle.module_stream.specs.DeclarationReading.{module_at, read_decls};
@@ -64,6 +64,7 @@ pub fn decode_decls(alloc: Global, bytes: &[u8]) -> Result<Module, StreamError>
 
     // Which fault it is: the first from the left.
     ensures exact { GivesAll result (read_decls bytes.now) }
+    ensures within { IsWithin (length bytes.now) result }
 {
     declarations(alloc, bytes)
 }

@@ -3,7 +3,6 @@ use Rattle.std.proofs.Common.{◌≡◌, ◌+◌, ◌*◌, ◌^◌, ◌<◌, ◌
 use Rattle.std.specs.Prelude.{◌&&◌, All, Option, slice_get, nat_le, nat_lt, nat_eq, IfSome, min, sum_by, unwrap_or}
 use Rattle.std.specs.Option.{option_map_or}
 use Rattle.std.specs.List.{flat_map, list_all}
-use Rattle.std.proofs.lemmas.Bool.Decides.{nat_tests}
 use Rattle.std.proofs.lemmas.List.Concat.{length-flat_map}
 use Rattle.std.proofs.lemmas.List.Sums.{sum_by-cons}
 use Rattle.gimple_ir.specs.declared.types.ScalarType.{ScalarType}
@@ -29,8 +28,8 @@ use Rattle.module_stream.specs.Bodies.{component_count, FitsOperand, FitsArg, Fi
 use Rattle.module_stream.specs.Bodies.{type_of as type_within}
 use Rattle.lto_object.specs.Bounds.{bounds_of}
 use Rattle.func_summary.proofs.Checked.{both-true, below, all-from_places, all_at, same_type-is}
-use Rattle.lto_object.proofs.Places.{there}
-use Rattle.lto_object.proofs.CheckedFacts.{all_true, Facts, facts, few_components, few_variables, Labels, labels, few_in_body}
+use Rattle.lto_object.proofs.Elements.{there}
+use Rattle.lto_object.proofs.CheckedFacts.{all_true, same_number, Facts, facts, few_components, few_variables, Labels, labels, few_in_body}
 
 -- ---- numbers
 
@@ -64,9 +63,6 @@ few_arguments m f to g args checked lt h =
     let k = facts m g called.0 checked called.1 in
     let same = same_number (length args) called.0.parameters (sym (ap (λ o. option_map_or (λ (c : Function). nat_eq (length args) c.parameters) o true) called.1) ∙ h) in
     omega (arith, same, k.stated.parameters, few_variables m called.0 checked k)
-  where
-    same_number : (a b : ℕ) → nat_eq a b ≡ true → a ≡ b
-    same_number a b h = grind (arith, nat_tests)
 
 -- ---- the cases of a switch
 

@@ -54,30 +54,33 @@ none_same m place f s h = by (same_summary s (summary_of m f)) refl h
     by true e n = e
     by false e n = cc
 
+pub none_left : (m : Module) (place : ℕ) (fs : List Function) → summaries_fault_from m place fs [] ≡ None
+none_left m place [] = refl
+none_left m place (f ∷ fs) = refl
+
 abbrev Within : Module → List Function → List Summary → Type 0
 Within m fs stored = FitEach FitsSummary (map (bounds_of m) (defined_of fs)) stored
+
+summaries_step : (m : Module) (place : ℕ) (f : Function) (fs : List Function) → (is_defined f ≡ true → IsSummed m f)
+    → ((ss : List Summary) → Within m fs ss → summaries_fault_from m (place + 1) fs ss ≡ None → ss ≡ map (summary_of m) (defined_of fs))
+    → (b : Bool) → is_defined f ≡ b → (ss : List Summary) → FitEach FitsSummary (map (bounds_of m) (cond b (f ∷ defined_of fs) (defined_of fs))) ss → summaries_fault_from m place (f ∷ fs) ss ≡ None
+    → ss ≡ map (summary_of m) (cond b (f ∷ defined_of fs) (defined_of fs))
+summaries_step m place f fs summed later true e [] v n = absurd v
+summaries_step m place f fs summed later true e (s ∷ ss) v n =
+    let here : cond (is_defined f) (first (summary_fault m place f s) (summaries_fault_from m (place + 1) fs ss)) (summaries_fault_from m (place + 1) fs (s ∷ ss)) ≡ None = n in
+    let both = first_none (summary_fault m place f s) (summaries_fault_from m (place + 1) fs ss) (rw e at here) in
+    let k = summed e in
+    ap₂ (λ t ts. t ∷ ts) (same_is m f s (summary_of m f) k.counts v.0 k.fits (none_same m place f s both.0)) (later ss v.1 both.1)
+summaries_step m place f fs summed later false e [] v n = later [] v (none_left m (place + 1) fs)
+summaries_step m place f fs summed later false e (s ∷ ss) v n =
+    let here : cond (is_defined f) (first (summary_fault m place f s) (summaries_fault_from m (place + 1) fs ss)) (summaries_fault_from m (place + 1) fs (s ∷ ss)) ≡ None = n in
+    later (s ∷ ss) v (rw e at here)
 
 summaries_are : (m : Module) (place : ℕ) (fs : List Function) (stored : List Summary) → AllByRecursion (λ g. is_defined g ≡ true → IsSummed m g) fs → Within m fs stored → summaries_fault_from m place fs stored ≡ None → stored ≡ map (summary_of m) (defined_of fs)
 summaries_are m place [] [] summed w h = refl
 summaries_are m place [] (s ∷ stored) summed w h = absurd w
-summaries_are m place (f ∷ fs) stored summed w h = by (is_defined f) refl stored w h
-  where
-    by : (b : Bool) → is_defined f ≡ b → (ss : List Summary) → FitEach FitsSummary (map (bounds_of m) (cond b (f ∷ defined_of fs) (defined_of fs))) ss → summaries_fault_from m place (f ∷ fs) ss ≡ None
-        → ss ≡ map (summary_of m) (cond b (f ∷ defined_of fs) (defined_of fs))
-    by true e [] v n = absurd v
-    by true e (s ∷ ss) v n =
-        let here : cond (is_defined f) (first (summary_fault m place f s) (summaries_fault_from m (place + 1) fs ss)) (summaries_fault_from m (place + 1) fs (s ∷ ss)) ≡ None = n in
-        let both = first_none (summary_fault m place f s) (summaries_fault_from m (place + 1) fs ss) (rw e at here) in
-        let k = summed.0 e in
-        ap₂ (λ t ts. t ∷ ts) (same_is m f s (summary_of m f) k.counts v.0 k.fits (none_same m place f s both.0)) (summaries_are m (place + 1) fs ss summed.1 v.1 both.1)
-    by false e [] v n = summaries_are m (place + 1) fs [] summed.1 v (none_left (place + 1) fs)
-      where
-        none_left : (p : ℕ) (gs : List Function) → summaries_fault_from m p gs [] ≡ None
-        none_left p [] = refl
-        none_left p (g ∷ gs) = refl
-    by false e (s ∷ ss) v n =
-        let here : cond (is_defined f) (first (summary_fault m place f s) (summaries_fault_from m (place + 1) fs ss)) (summaries_fault_from m (place + 1) fs (s ∷ ss)) ≡ None = n in
-        summaries_are m (place + 1) fs (s ∷ ss) summed.1 v (rw e at here)
+summaries_are m place (f ∷ fs) stored summed w h =
+    summaries_step m place f fs summed.0 (λ ss v n. summaries_are m (place + 1) fs ss summed.1 v n) (is_defined f) refl stored w h
 
 alike : (s : Summary) → same_summary s s ≡ true
 alike s = (bytes_eq-Decides (summary_bytes s) (summary_bytes s)).1 refl
@@ -85,17 +88,21 @@ alike s = (bytes_eq-Decides (summary_bytes s) (summary_bytes s)).1 refl
 no_fault : (m : Module) (place : ℕ) (f : Function) → summary_fault m place f (summary_of m f) ≡ None
 no_fault m place f = rw (alike (summary_of m f)) refl
 
+good_step : (m : Module) (place : ℕ) (f : Function) (fs : List Function) → summaries_fault_from m (place + 1) fs (map (summary_of m) (defined_of fs)) ≡ None
+    → (b : Bool) → is_defined f ≡ b → (ss : List Summary) → ss ≡ map (summary_of m) (defined_of fs) → summaries_fault_from m place (f ∷ fs) (cond b (summary_of m f ∷ ss) ss) ≡ None
+good_step m place f fs later true e ss is = rw (e, no_fault m place f, is) later
+good_step m place f fs later false e [] is = refl
+good_step m place f fs later false e (s ∷ ss) is = rw (e, is) later
+
+cond_map : (m : Module) (f : Function) (fs : List Function) (b : Bool) → map (summary_of m) (cond b (f ∷ fs) fs) ≡ cond b (summary_of m f ∷ map (summary_of m) fs) (map (summary_of m) fs)
+cond_map m f fs true = refl
+cond_map m f fs false = refl
+
 summaries_good : (m : Module) (place : ℕ) (fs : List Function) → summaries_fault_from m place fs (map (summary_of m) (defined_of fs)) ≡ None
 summaries_good m place [] = refl
-summaries_good m place (f ∷ fs) = by (is_defined f) refl
-  where
-    later : (ss : List Summary) → is_defined f ≡ false → summaries_fault_from m (place + 1) fs ss ≡ None → summaries_fault_from m place (f ∷ fs) ss ≡ None
-    later [] e n = refl
-    later (s ∷ ss) e n = rw e n
-
-    by : (b : Bool) → is_defined f ≡ b → summaries_fault_from m place (f ∷ fs) (map (summary_of m) (cond b (f ∷ defined_of fs) (defined_of fs))) ≡ None
-    by true e = rw (e, no_fault m place f) (summaries_good m (place + 1) fs)
-    by false e = later (map (summary_of m) (defined_of fs)) e (summaries_good m (place + 1) fs)
+summaries_good m place (f ∷ fs) =
+    ap (summaries_fault_from m place (f ∷ fs)) (cond_map m f (defined_of fs) (is_defined f))
+    ∙ good_step m place f fs (summaries_good m (place + 1) fs) (is_defined f) refl (map (summary_of m) (defined_of fs)) refl
 
 pub none_differs : (m : Module) (stored : List Summary) → AllByRecursion (λ g. is_defined g ≡ true → IsSummed m g) m.functions → Within m m.functions stored → summaries_fault m stored ≡ None → stored ≡ summaries_of m
 none_differs m stored summed w h = summaries_are m 0 m.functions stored summed w h
@@ -135,6 +142,12 @@ three-true true true false h = cc
 three-true true false c h = cc
 three-true false b c h = cc
 
+abbrev symbol_as : List ℕ → Bool → Linkage → StoredSymbol
+symbol_as n f l = record { name = n; function = f; linkage = l }
+
+same : (a b : List ℕ) (c d : Bool) (e g : Linkage) → a ≡ b → c ≡ d → e ≡ g → symbol_as a c e ≡ symbol_as b d g
+same a b c d e g p q r = rw (p, q, r) refl
+
 symbol_is : (s t : StoredSymbol) → same_symbol s t ≡ true → s ≡ t
 symbol_is s t h =
     let each = three-true (flag_code s.function == flag_code t.function) (linkage_code s.linkage == linkage_code t.linkage) (bytes_eq s.name t.name) h in
@@ -142,9 +155,6 @@ symbol_is s t h =
     let l : s.linkage ≡ t.linkage = linkage_is s.linkage t.linkage (eqb-true (linkage_code s.linkage) (linkage_code t.linkage) each.1) in
     let n : s.name ≡ t.name = same_bytes s.name t.name each.2 in
     same s.name t.name s.function t.function s.linkage t.linkage n f l
-  where
-    same : (a b : List ℕ) (c d : Bool) (e g : Linkage) → a ≡ b → c ≡ d → e ≡ g → record { name = a; function = c; linkage = e } ≡ record { name = b; function = d; linkage = g }
-    same a b c d e g p q r = rw (p, q, r) refl
 
 equal_numbers : (n : ℕ) → (n == n) ≡ true
 equal_numbers n = grind (arith, nat_tests)
@@ -156,11 +166,11 @@ stored_are : (place : ℕ) (stored : List StoredSymbol) (ss : List Symbol) → d
 stored_are place [] [] h = refl
 stored_are place [] (s ∷ ss) h = cc
 stored_are place (t ∷ stored) [] h = cc
-stored_are place (t ∷ stored) (s ∷ ss) h = by (same_symbol t (stored_of s)) refl h
+stored_are place (t ∷ stored) (s ∷ ss) h = by (same_symbol t (stored_of s)) refl h (stored_are (place + 1) stored ss)
   where
-    by : (b : Bool) → same_symbol t (stored_of s) ≡ b → cond b (differs_from (place + 1) stored ss) (Some place) ≡ None → t ∷ stored ≡ stored_of s ∷ map stored_of ss
-    by true e n = ap₂ (λ x xs. x ∷ xs) (symbol_is t (stored_of s) e) (stored_are (place + 1) stored ss n)
-    by false e n = cc
+    by : (b : Bool) → same_symbol t (stored_of s) ≡ b → cond b (differs_from (place + 1) stored ss) (Some place) ≡ None → (differs_from (place + 1) stored ss ≡ None → stored ≡ map stored_of ss) → t ∷ stored ≡ stored_of s ∷ map stored_of ss
+    by true e n later = ap₂ (λ x xs. x ∷ xs) (symbol_is t (stored_of s) e) (later n)
+    by false e n later = cc
 
 stored_good : (place : ℕ) (ss : List Symbol) → differs_from place (map stored_of ss) ss ≡ None
 stored_good place [] = refl

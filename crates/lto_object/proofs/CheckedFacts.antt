@@ -24,7 +24,7 @@ use Rattle.gimple_ir.specs.Checks.{first_of, faults_from, fault_at, struct_kind,
 use Rattle.gimple_ir.specs.Programs.{IsStatedStruct, IsStatedArray, IsStatedFunction, IsChecked, AgreesIn, HasValues, IsIdentifier}
 use Rattle.module_stream.specs.Declarations.{NamesStruct, HasArrayCounts, HasFunctionCounts, HasCounts, locals_of}
 use Rattle.func_summary.proofs.Checked.{both-true, below, within, three-none, three-pass, first_failed-none, statement-passes, bound-passes, fault_at-none, faults_from-none, body-none, all-from_places, all_at}
-use Rattle.lto_object.proofs.Places.{not_past}
+use Rattle.lto_object.proofs.Elements.{not_past}
 
 -- ---- tests that pass
 
@@ -144,48 +144,40 @@ few_variables m f checked k =
     λ i v here. some_type m v checked (all_at (λ w. IsIdentifier w.name × AgreesIn m.structs w.ty w.types) f.variables k.stated.variables i v here).1 (all_true (λ w. knows_struct (length m.structs) w.ty) f.variables k.head.structs i v here) in
     omega (arith, few_components m f k, few_of_some f.variables each)
 
--- the labels that stand are as many as those of the list, and one of them is below their count
+wider : (o : Option ℕ) (a b : ℕ) → a ≤ b → IfSome o (λ l. l < a) → IfSome o (λ l. l < b)
+wider None a b le h = tt
+wider (Some l) a b le h = omega (arith, le, h)
+
+first_label : (k n c : ℕ) → nat_eq k n ≡ true → k < n + suc c
+first_label k n c h = grind (arith, nat_tests)
+
+label_step : (t : Statement) (ss : List Statement) (n : ℕ) (o : Option ℕ) → label_of t ≡ o → counts_up n (cons_option o (filter_map label_of ss)) ≡ true
+    → ((k : ℕ) → counts_up k (filter_map label_of ss) ≡ true → (i : ℕ) (s : Statement) → slice_get ss i ≡ Some s → IfSome (label_of s) (λ l. l < k + length (filter_map label_of ss)))
+    → (i : ℕ) (s : Statement) → slice_get (t ∷ ss) i ≡ Some s → IfSome (label_of s) (λ l. l < n + length (cons_option o (filter_map label_of ss)))
+label_step t ss n None e up later zero s here = let same : s ≡ t = cc in rw (ap label_of same ∙ e) tt
+label_step t ss n None e up later (suc i) s here = later n up i s here
+label_step t ss n (Some k) e up later zero s here =
+    let same : s ≡ t = cc in
+    rw (ap label_of same ∙ e) (first_label k n (length (filter_map label_of ss)) (both-true (nat_eq k n) (counts_up (n + 1) (filter_map label_of ss)) up).0)
+label_step t ss n (Some k) e up later (suc i) s here =
+    wider (label_of s) (n + 1 + length (filter_map label_of ss)) (n + length (k ∷ filter_map label_of ss)) (omega arith)
+    (later (n + 1) (both-true (nat_eq k n) (counts_up (n + 1) (filter_map label_of ss)) up).1 i s here)
+
+-- a label that stands is below the count of those that stand
 counted_labels : (body : List Statement) (n : ℕ) → counts_up n (filter_map label_of body) ≡ true → (i : ℕ) (s : Statement) → slice_get body i ≡ Some s
     → IfSome (label_of s) (λ l. l < n + length (filter_map label_of body))
 counted_labels [] n h i s here = cc
-counted_labels (t ∷ ss) n h i s here = by (label_of t) refl h
-  where
-    by : (o : Option ℕ) → label_of t ≡ o → counts_up n (cons_option (label_of t) (filter_map label_of ss)) ≡ true
-        → IfSome (label_of s) (λ l. l < n + length (cons_option (label_of t) (filter_map label_of ss)))
-    by None e up =
-        rw e (later i here (rw e at up))
-      where
-        later : (j : ℕ) → slice_get (t ∷ ss) j ≡ Some s → counts_up n (filter_map label_of ss) ≡ true → IfSome (label_of s) (λ l. l < n + length (filter_map label_of ss))
-        later zero at up = let same : s ≡ t = cc in rw (ap label_of same ∙ e) tt
-        later (suc j) at up = counted_labels ss n up j s at
-    by (Some k) e up =
-        rw e (later i here (rw e at up))
-      where
-        wider : (o : Option ℕ) (a b : ℕ) → a ≤ b → IfSome o (λ l. l < a) → IfSome o (λ l. l < b)
-        wider None a b le h = tt
-        wider (Some l) a b le h = omega (arith, le, h)
-
-        later : (j : ℕ) → slice_get (t ∷ ss) j ≡ Some s → (nat_eq k n && counts_up (n + 1) (filter_map label_of ss)) ≡ true → IfSome (label_of s) (λ l. l < n + length (k ∷ filter_map label_of ss))
-        later zero at up =
-            let same : s ≡ t = cc in
-            let first = (both-true (nat_eq k n) (counts_up (n + 1) (filter_map label_of ss)) up).0 in
-            rw (ap label_of same ∙ e) (small k n (length (filter_map label_of ss)) first)
-          where
-            small : (a b c : ℕ) → nat_eq a b ≡ true → a < b + suc c
-            small a b c h = grind (arith, nat_tests)
-        later (suc j) at up =
-            wider (label_of s) ((n + 1) + length (filter_map label_of ss)) (n + length (k ∷ filter_map label_of ss)) (omega arith)
-            (counted_labels ss (n + 1) (both-true (nat_eq k n) (counts_up (n + 1) (filter_map label_of ss)) up).1 j s at)
+counted_labels (t ∷ ss) n h i s here = label_step t ss n (label_of t) refl h (counted_labels ss) i s here
 
 few_labels_of : (body : List Statement) → length (filter_map label_of body) ≤ length body
 few_labels_of [] = omega arith
-few_labels_of (s ∷ ss) = by (label_of s)
+few_labels_of (s ∷ ss) = one_more (label_of s) (filter_map label_of ss) (length ss) (few_labels_of ss)
   where
-    by : (o : Option ℕ) → length (cons_option o (filter_map label_of ss)) ≤ suc (length ss)
-    by None = omega (arith, few_labels_of ss)
-    by (Some l) = omega (arith, few_labels_of ss)
+    one_more : (o : Option ℕ) (ls : List ℕ) (n : ℕ) → length ls ≤ n → length (cons_option o ls) ≤ suc n
+    one_more None ls n h = omega (arith, h)
+    one_more (Some l) ls n h = omega (arith, h)
 
-same_number : (a b : ℕ) → nat_eq a b ≡ true → a ≡ b
+pub same_number : (a b : ℕ) → nat_eq a b ≡ true → a ≡ b
 same_number a b h = grind (arith, nat_tests)
 
 pub record Labels (f : Function) : Type 0 where
@@ -199,9 +191,10 @@ labels m f k =
     let two = both-true (labels_in_order (length f.labels) f.body) (goals_stand (length f.labels) f.body) all.0 in
     let order = both-true (counts_up 0 (filter_map label_of f.body)) (nat_eq (length (filter_map label_of f.body)) (length f.labels)) two.0 in
     let count = same_number (length (filter_map label_of f.body)) (length f.labels) order.1 in
+    let total : 0 + length (filter_map label_of f.body) ≡ length f.labels = omega (arith, count) in
     record {
       count = count;
-      stands = λ i s here. subst (λ (n : ℕ). IfSome (label_of s) (λ l. l < n)) count (counted_labels f.body 0 order.0 i s here);
+      stands = λ i s here. subst (λ (n : ℕ). IfSome (label_of s) (λ l. l < n)) total (counted_labels f.body 0 order.0 i s here);
       goes = λ i s here. all_true (goes_within (length f.labels)) f.body two.1 i s here;
     }
 

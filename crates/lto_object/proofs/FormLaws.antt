@@ -1,6 +1,6 @@
 -- Sections that have no fault are those of an object, and those of an object have none.
 use Rattle.std.proofs.Common.{◌≡◌, ℕ, ◌+◌, List, [], ◌∷◌, ◌++◌, length, Bool, true, false, cond, Option, Some, None, refl, sym, ap, subst, ◌∙◌}
-use Rattle.std.specs.Prelude.{⊥, ◌&&◌, ◌==◌, option_map}
+use Rattle.std.specs.Prelude.{◌&&◌, ◌==◌, option_map, codes}
 use Rattle.std.specs.Str.{bytes_eq}
 use Rattle.std.proofs.lemmas.Bool.{eqb-true}
 use Rattle.std.proofs.lemmas.Slice.Eq.{bytes_eq-Decides}
@@ -26,6 +26,12 @@ six-true true true false d e f h = cc
 six-true true false c d e f h = cc
 six-true false b c d e f h = cc
 
+abbrev section_as : List ℕ → ℕ → ℕ → ℕ → ℕ → ℕ → List ℕ → OwnSection
+section_as n k f l i e b = record { name = n; kind = k; flags = f; link = l; info = i; entry_size = e; bytes = b }
+
+same : (n m : List ℕ) (k j f g l i e : ℕ) (b : List ℕ) → n ≡ m → k ≡ j → f ≡ g → l ≡ 0 → i ≡ 0 → e ≡ 0 → section_as n k f l i e b ≡ section_as m j g 0 0 0 b
+same n m k j f g l i e b p q r s t u = rw (p, q, r, s, t, u) refl
+
 formed_one : (name : List ℕ) (s : OwnSection) → has_form name s ≡ true → s ≡ section_of name s.bytes
 formed_one name s h =
     let all = six-true (bytes_eq s.name name) (s.kind == SHT_PROGBITS) (s.flags == SHF_EXCLUDE) (s.link == 0) (s.info == 0) (s.entry_size == 0) h in
@@ -36,13 +42,9 @@ formed_one name s h =
     let info : s.info ≡ 0 = eqb-true s.info 0 all.4 in
     let entry : s.entry_size ≡ 0 = eqb-true s.entry_size 0 all.5 in
     same s.name name s.kind SHT_PROGBITS s.flags SHF_EXCLUDE s.link s.info s.entry_size s.bytes named kind flags link info entry
-  where
-    same : (n m : List ℕ) (k j f g l i e : ℕ) (b : List ℕ) → n ≡ m → k ≡ j → f ≡ g → l ≡ 0 → i ≡ 0 → e ≡ 0
-        → record { name = n; kind = k; flags = f; link = l; info = i; entry_size = e; bytes = b } ≡ record { name = m; kind = j; flags = g; link = 0; info = 0; entry_size = 0; bytes = b }
-    same n m k j f g l i e b p q r s t u = rw (p, q, r, s, t, u) refl
 
 -- each has the form with its name
-Formed : List (List ℕ) → List OwnSection → Type 0
+abbrev Formed : List (List ℕ) → List OwnSection → Type 0
 Formed [] [] = Unit {0}
 Formed [] (s ∷ ss) = ⊥
 Formed (name ∷ names) [] = ⊥
@@ -52,11 +54,11 @@ formed : (place : ℕ) (names : List (List ℕ)) (ss : List OwnSection) → misp
 formed place [] [] h = tt
 formed place [] (s ∷ ss) h = cc
 formed place (name ∷ names) [] h = cc
-formed place (name ∷ names) (s ∷ ss) h = by (has_form name s) refl h
+formed place (name ∷ names) (s ∷ ss) h = by (has_form name s) refl h (formed (place + 1) names ss)
   where
-    by : (b : Bool) → has_form name s ≡ b → cond b (misplaced_from (place + 1) names ss) (Some place) ≡ None → Formed (name ∷ names) (s ∷ ss)
-    by true e n = (formed_one name s e, formed (place + 1) names ss n)
-    by false e n = cc
+    by : (b : Bool) → has_form name s ≡ b → cond b (misplaced_from (place + 1) names ss) (Some place) ≡ None → (misplaced_from (place + 1) names ss ≡ None → Formed names ss) → Formed (name ∷ names) (s ∷ ss)
+    by true e n later = (formed_one name s e, later n)
+    by false e n later = cc
 
 first_none : (a b : Option ObjectFault) → first a b ≡ None → (a ≡ None) × (b ≡ None)
 first_none None b h = (refl, h)
@@ -74,7 +76,7 @@ version_one ss h = by (bytes_eq (part 0 ss) (1 ∷ [])) refl h
     by false e n = cc
 
 five : (a b c d e : OwnSection) → Formed form_names (a ∷ b ∷ c ∷ d ∷ e ∷ []) → a.bytes ≡ 1 ∷ [] → a ∷ b ∷ c ∷ d ∷ e ∷ [] ≡ sections_with (1 ∷ []) b.bytes c.bytes d.bytes e.bytes
-five a b c d e f v = rw (f.0 ∙ ap (λ bytes. section_of _ bytes) v, f.1.0, f.1.1.0, f.1.1.1.0, f.1.1.1.1.0) refl
+five a b c d e f v = rw (f.0 ∙ ap (section_of (codes ".gnu.lto_.version")) v, f.1.0, f.1.1.0, f.1.1.1.0, f.1.1.1.1.0) refl
 
 is_five : (ss : List OwnSection) → Formed form_names ss → part 0 ss ≡ 1 ∷ [] → IsForm ss
 is_five [] f v = absurd f

@@ -1,3 +1,16 @@
-pub mod Places
+pub mod BoundLaws
+pub mod BodyLaws
+pub mod JumpLaws
+pub mod SummaryLaws
+pub mod SymbolLaws
+pub mod Elements
 pub mod CheckedFacts
 pub mod BodyFits
+pub mod SummaryFits
+pub mod FormLaws
+pub mod CheckLaws
+pub mod FilledLaws
+pub mod SizeLaws
+pub mod SymbolFits
+pub mod ReadLaws
+pub mod LoopLaws

@@ -1,11 +1,11 @@
 -- The true summary of a function of a checked module has a spelling.
 use Rattle.std.proofs.Common.{◌≡◌, ◌+◌, ◌*◌, ◌^◌, ◌<◌, ◌≤◌, ℕ, zero, suc, List, [], ◌∷◌, length, map, take, Bool, true, false, cond, Some, None, refl, sym, ap, ◌∙◌, arith}
 use Rattle.std.specs.Prelude.{◌&&◌, All, Option, slice_get, nat_eq, nat_lt, IfSome}
-use Rattle.std.specs.List.{filter, filter_map, list_all, flat_map, range_with_len, enumerate_from, cons_option}
+use Rattle.std.specs.List.{filter, list_all, flat_map, range_with_len}
 use Rattle.std.proofs.lemmas.List.Elements.{All-nil, All-cons}
 use Rattle.std.proofs.lemmas.List.Concat.{length-flat_map}
 use Rattle.std.proofs.lemmas.List.FromFn.{length-map-range_with_len}
-use Rattle.std.proofs.lemmas.List.Sums.{length-filter, count_by-le-length, sum_by-le-sum_by}
+use Rattle.std.proofs.lemmas.List.Sums.{sum_by-le-sum_by}
 use Rattle.gimple_ir.specs.declared.types.ScalarType.{ScalarType}
 use Rattle.gimple_ir.specs.declared.types.Value.{Value}
 use Rattle.gimple_ir.specs.declared.types.UnaryOp.{UnaryOp}
@@ -22,8 +22,6 @@ use Rattle.gimple_ir.specs.declared.types.Statement.TheVariants.{Nop, Label, Got
 use Rattle.gimple_ir.specs.declared.summary.JumpFunction.{JumpFunction}
 use Rattle.gimple_ir.specs.declared.summary.JumpFunction.TheVariants as jump
 use Rattle.gimple_ir.specs.declared.summary.ParamFacts.{ParamFacts}
-use Rattle.gimple_ir.specs.declared.summary.EdgeArg.{EdgeArg}
-use Rattle.gimple_ir.specs.declared.summary.Edge.{Edge}
 use Rattle.gimple_ir.specs.Values.{IsValue, residue, unary_of, binary_of, convert_of, TypesFit}
 use Rattle.gimple_ir.specs.CodeBound.{components_in, components_of, parameter_components, argument_operands, operands_in, code_bound_of}
 use Rattle.gimple_ir.specs.Statements.{component_types, knows, knows_target, knows_function, knows_argument}
@@ -32,7 +30,6 @@ use Rattle.gimple_ir.specs.Programs.{IsChecked, HasValues, IsOperand, IsArgument
 use Rattle.gimple_ir.proofs.Ranges.{residue-lt}
 use Rattle.gimple_ir.proofs.WellFormed.{reduced-InRange, unary_of-IsValue, binary_of-IsValue}
 use Rattle.module_stream.specs.declared.bounds.BodyBounds.{BodyBounds}
-use Rattle.module_stream.specs.Fields.{FitsAll}
 use Rattle.module_stream.specs.Bodies.{component_count}
 use Rattle.func_summary.specs.declared.places.Place.{Place}
 use Rattle.func_summary.specs.declared.assignments.Assignment.{Assignment}
@@ -40,9 +37,10 @@ use Rattle.func_summary.specs.JumpFunctions.{field_of, is_parameter, copied, com
 use Rattle.func_summary.specs.Summaries.{places_of, places_naming, facts_of, params_of, names_array, arrays_of, component_argument, field_argument, edge_arguments, edge_of, edges_of, summary_of}
 use Rattle.func_summary.specs.Ready.{CanUnary, CanBinary, CanCompute, IsReady}
 use Rattle.func_summary.proofs.Components.{components_of-within}
-use Rattle.func_summary.proofs.Checked.{both-true, below, all-from_places, all_at, all_flat_map, few_in_all, ready}
+use Rattle.func_summary.proofs.Checked.{both-true, below, all-from_places, place_inside, all_at, all_flat_map, few_in_all, ready}
 use Rattle.lto_object.specs.Bounds.{bounds_of}
 use Rattle.lto_object.specs.SummaryStream.{FitsJump, FitsSource, FitsArgument, FitsEdge, FitsSummary}
+use Rattle.lto_object.proofs.Elements.{all_listed}
 use Rattle.lto_object.proofs.CheckedFacts.{Facts, facts, few_components, few_in_body}
 use Rattle.lto_object.proofs.BodyFits.{small_component, few_operands}
 
@@ -54,19 +52,19 @@ all_map P g (x ∷ xs) h = All-cons P (g x) (map g xs) (h x) (all_map P g xs h)
 
 all_filter : {X : Type 0} (P : X → Type 0) (p : X → Bool) (xs : List X) → ((i : ℕ) (x : X) → slice_get xs i ≡ Some x → P x) → All P (filter p xs)
 all_filter P p [] h = All-nil P
-all_filter P p (x ∷ xs) h = by (p x)
+all_filter P p (x ∷ xs) h = by (p x) (h 0 x refl) (all_filter P p xs (λ i y here. h (suc i) y here))
   where
-    by : (b : Bool) → All P (cond b (x ∷ filter p xs) (filter p xs))
-    by true = All-cons P x (filter p xs) (h 0 x refl) (all_filter P p xs (λ i y here. h (suc i) y here))
-    by false = all_filter P p xs (λ i y here. h (suc i) y here)
+    by : (b : Bool) → P x → All P (filter p xs) → All P (cond b (x ∷ filter p xs) (filter p xs))
+    by true one rest = All-cons P x (filter p xs) one rest
+    by false one rest = rest
 
 few_filter : {X : Type 0} (p : X → Bool) (xs : List X) → length (filter p xs) ≤ length xs
 few_filter p [] = omega arith
-few_filter p (x ∷ xs) = by (p x)
+few_filter p (x ∷ xs) = by (p x) (few_filter p xs)
   where
-    by : (b : Bool) → length (cond b (x ∷ filter p xs) (filter p xs)) ≤ suc (length xs)
-    by true = omega (arith, few_filter p xs)
-    by false = omega (arith, few_filter p xs)
+    by : (b : Bool) → length (filter p xs) ≤ length xs → length (cond b (x ∷ filter p xs) (filter p xs)) ≤ suc (length xs)
+    by true few = omega (arith, few)
+    by false few = omega (arith, few)
 
 in_range : (a n i x : ℕ) → slice_get (range_with_len a n) i ≡ Some x → x < a + n
 in_range a zero i x here = cc
@@ -147,10 +145,10 @@ assigned_ranged m f r k =
     all_flat_map Ranged (assignments_in f) f.body
     (all-from_places (λ s. All Ranged (assignments_in f s)) f.body (λ i s here. statement_ranged f s (all_at CanCompute f.body r.computes i s here) (all_at HasValues f.body k.stated.values i s here)))
 
-sole_ranged : (as : List Assignment) → All Ranged as → HasRanges (sole_value as)
+sole_ranged : (given : List Assignment) → All Ranged given → HasRanges (sole_value given)
 sole_ranged [] h = tt
 sole_ranged (a ∷ []) h = all_at Ranged (a ∷ []) h 0 a refl
-sole_ranged (a ∷ b ∷ as) h = tt
+sole_ranged (a ∷ b ∷ more) h = tt
 
 -- ---- jump functions
 
@@ -240,20 +238,6 @@ edge_fits m f n (Putchar a) r k lt h v o = tt
 edge_fits m f n (Getchar to) r k lt h v o = tt
 edge_fits m f n (Exit a) r k lt h v o = tt
 
-edges_fit : (m : Module) (f : Function) (n : ℕ) (body : List Statement) → n + length body < 2 ^ 32 → ((i : ℕ) (s : Statement) → slice_get body i ≡ Some s → (p : ℕ) → p < 2 ^ 32 → IfSome (edge_of f p s) (FitsEdge (bounds_of m f)))
-    → All (FitsEdge (bounds_of m f)) (filter_map (λ pair. edge_of f pair.0 pair.1) (enumerate_from n body)) × (length (filter_map (λ pair. edge_of f pair.0 pair.1) (enumerate_from n body)) ≤ length body)
-edges_fit m f n [] lt h = (All-nil (FitsEdge (bounds_of m f)), omega arith)
-edges_fit m f n (s ∷ ss) lt h =
-    let later = edges_fit m f (n + 1) ss (omega (arith, lt)) (λ i t here. h (suc i) t here) in
-    by (edge_of f n s) (h 0 s refl n (omega (arith, lt))) later
-  where
-    rest : List Edge
-    rest = filter_map (λ pair. edge_of f pair.0 pair.1) (enumerate_from (n + 1) ss)
-
-    by : (o : Option Edge) → IfSome o (FitsEdge (bounds_of m f)) → All (FitsEdge (bounds_of m f)) rest × (length rest ≤ length ss) → All (FitsEdge (bounds_of m f)) (cons_option o rest) × (length (cons_option o rest) ≤ suc (length ss))
-    by None e l = (l.0, omega (arith, l.1))
-    by (Some edge) e l = (All-cons (FitsEdge (bounds_of m f)) edge rest e l.0, omega (arith, l.1))
-
 -- ---- the summary
 
 weights_small : (f : Function) → code_bound_of f ≤ 524288 → All (λ p. p.weight < 2 ^ 32) (params_of f)
@@ -266,7 +250,7 @@ summary_fits m n f checked here =
     let k = facts m n f checked here in
     let r = ready m n f checked here in
     let arrays_few : length m.arrays < 2 ^ 32 = omega (arith, checked.stated.items) in
-    let fits = edges_fit m f 0 f.body (omega (arith, few_in_body m f k)) (λ i s at p lt. edge_fits m f p s r k lt (k.passes i s at).0 (all_at HasValues f.body k.stated.values i s at) (few_operands m f i s k at)) in
+    let fits = all_listed (FitsEdge (bounds_of m f)) (edge_of f) 0 f.body (λ i s at. edge_fits m f (0 + i) s r k (omega (arith, place_inside f.body i s at, few_in_body m f k)) (k.passes i s at).0 (all_at HasValues f.body k.stated.values i s at) (few_operands m f i s k at)) in
     record {
       bound = omega (arith, k.bound);
       params = (omega (arith, length-map-range_with_len (λ x. facts_of (places_naming x (places_of f))) 0 (parameter_components f), components_of-within f.variables f.parameters, few_components m f k), weights_small f k.bound);

@@ -113,7 +113,7 @@ fn array_symbols(
 ) -> Result<Vec<Symbol>, NoMemory>
     requires few { length arrays.now < 2 ^ 32 }
     requires ascend { IsNonDecreasing named.now }
-    ensures { IfOk result (λ all. all.items ≡ symbols.entry.items ++ array_symbols named.now arrays.now) }
+    ensures { IfOk result (λ all. all.items ≡ symbols.items ++ array_symbols named.now arrays.now) }
 {
     for place in 0..arrays.len() {
         let array = &arrays[place];
@@ -137,7 +137,7 @@ fn function_symbols(
 ) -> Result<Vec<Symbol>, NoMemory>
     requires few { length functions.now < 2 ^ 32 }
     requires ascend { IsNonDecreasing named.now }
-    ensures { IfOk result (λ all. all.items ≡ symbols.entry.items ++ function_symbols named.now functions.now) }
+    ensures { IfOk result (λ all. all.items ≡ symbols.items ++ function_symbols named.now functions.now) }
 {
     for place in 0..functions.len() {
         let function = &functions[place];
@@ -161,8 +161,8 @@ pub fn symbols(alloc: Global, source: &Module) -> Result<List<Symbol>, NoMemory>
 {
     let functions = source.functions.as_slice();
     let named = ascending(named_arrays(alloc, functions)?);
-    let symbols = array_symbols(Vec::new(alloc), source.arrays.as_slice(), named.as_slice())?;
     let called = ascending(named_functions(alloc, functions)?);
+    let symbols = array_symbols(Vec::new(alloc), source.arrays.as_slice(), named.as_slice())?;
     let all = function_symbols(symbols, functions, called.as_slice())?;
     Ok(List::from_vec(all))
 }

@@ -42,7 +42,7 @@ impl<'a> Object<'a> {
     ) -> Object<'a>
         requires object { IsObject (record { source = source; summaries = summaries; symbols = symbols; bodies = map (λ b. b.now) bodies.items }) }
         requires ranks { ranks.items ≡ ranks_of source.functions }
-        ensures { result.source ≡ source.entry }
+        ensures { result.source ≡ source }
     {
         Object {
             source,

@@ -1,7 +1,7 @@
 pub mod BoundLaws
-pub mod BodyLaws
 pub mod JumpLaws
 pub mod SummaryLaws
+pub mod BodyLaws
 pub mod SymbolLaws
 pub mod Elements
 pub mod CheckedFacts

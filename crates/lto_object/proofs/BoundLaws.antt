@@ -40,7 +40,7 @@ no_longer write some (x ∷ xs) =
     let parts : length (flat_map write (x ∷ xs)) ≡ length (write x) + length (flat_map write xs) = ap length (flat_map-cons write x xs) ∙ length-append (write x) (flat_map write xs) in
     omega (arith, parts, some x, no_longer write some xs)
 
-counted_longer : {A : Type 0} (write : A → List ℕ) → ((x : A) → 1 ≤ length (write x)) → (xs : List A) → length xs ≤ length (counted_of write xs)
+pub counted_longer : {A : Type 0} (write : A → List ℕ) → ((x : A) → 1 ≤ length (write x)) → (xs : List A) → length xs ≤ length (counted_of write xs)
 counted_longer write some xs = omega (arith, length-append (uleb_of (length xs)) (flat_map write xs), no_longer write some xs)
 
 -- each item's bytes are no more than those of all

@@ -14,3 +14,4 @@ pub mod SizeLaws
 pub mod SymbolFits
 pub mod ReadLaws
 pub mod LoopLaws
+pub mod RankLaws

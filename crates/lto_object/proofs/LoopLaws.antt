@@ -4,7 +4,7 @@ use Rattle.std.specs.Prelude.{slice_get, unwrap_or, ◌||◌, ◌&&◌, option_t
 use Rattle.std.specs.List.{filter, filter_map, cons_option, list_any, list_all, range_with_len}
 use Rattle.std.specs.Str.{bytes_eq}
 use Rattle.std.proofs.lemmas.Bool.{cases_lt}
-use Rattle.std.proofs.lemmas.List.{reverse-append, append-nil, get_or_default}
+use Rattle.std.proofs.lemmas.List.{reverse-append, append-nil, get_or_default, drop_all, length-map, length-drop}
 use Rattle.std.proofs.lemmas.List.Folds.{list_any_at, list_any_none}
 use Rattle.std.proofs.lemmas.List.Elements.{filter-append, filter_map-append}
 use Rattle.std.proofs.lemmas.List.FromFn.{map-range_with_len_more}
@@ -58,6 +58,24 @@ double_here names i name here =
 pub misplaced_here : (names : List (List ℕ)) (ss : List OwnSection) (i : ℕ) (name : List ℕ) (s : OwnSection) → slice_get names i ≡ Some name → slice_get ss i ≡ Some s
     → misplaced_from i (drop i names) (drop i ss) ≡ cond (has_form name s) (misplaced_from (i + 1) (drop (i + 1) names) (drop (i + 1) ss)) (Some i)
 misplaced_here names ss i name s n h = ap₂ (misplaced_from i) (drop_here names i name n) (drop_here ss i s h)
+
+first_absent : (place : ℕ) (names : List (List ℕ)) → 1 ≤ length names → misplaced_from place names [] ≡ Some place
+first_absent place [] h = absurd (omega (arith, h))
+first_absent place (name ∷ names) h = refl
+
+first_surplus : (place : ℕ) (ss : List OwnSection) → 1 ≤ length ss → misplaced_from place [] ss ≡ Some place
+first_surplus place [] h = absurd (omega (arith, h))
+first_surplus place (s ∷ ss) h = refl
+
+pub sections_end : {X Y : Type 0} (f : X → List ℕ) (g : Y → OwnSection) (xs : List X) (ys : List Y) (i : ℕ) → i < length xs → length ys ≤ i → misplaced_from i (map f (drop i xs)) (map g (drop i ys)) ≡ Some i
+sections_end f g xs ys i lt le =
+    ap (λ zs. misplaced_from i (map f (drop i xs)) (map g zs)) (drop_all i ys le)
+    ∙ first_absent i (map f (drop i xs)) (omega (arith, lt, length-map (drop i xs) f, length-drop i xs))
+
+pub names_end : {X Y : Type 0} (f : X → List ℕ) (g : Y → OwnSection) (xs : List X) (ys : List Y) (i : ℕ) → length xs ≤ i → i < length ys → misplaced_from i (map f (drop i xs)) (map g (drop i ys)) ≡ Some i
+names_end f g xs ys i le lt =
+    ap (λ zs. misplaced_from i (map f zs) (map g (drop i ys))) (drop_all i xs le)
+    ∙ first_surplus i (map g (drop i ys)) (omega (arith, lt, length-map (drop i ys) g, length-drop i ys))
 
 -- ---- symbols
 

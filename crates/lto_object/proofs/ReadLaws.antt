@@ -1,7 +1,7 @@
 -- The object of a checked module is read as that module.
 use Rattle.std.proofs.Common.{◌≡◌, ℕ, suc, ◌+◌, ◌^◌, ◌<◌, ◌≤◌, List, [], ◌∷◌, ◌++◌, length, map, Bool, true, false, cond, Option, Some, None, Result, Ok, Err, refl, sym, ap, ap₂, subst, ◌∙◌, arith}
-use Rattle.std.specs.Prelude.{All, slice_get, take, drop, codes, IfOk}
-use Rattle.std.proofs.lemmas.List.{length-take, length-drop, length-map}
+use Rattle.std.specs.Prelude.{All, slice_get, codes, IfOk}
+use Rattle.std.proofs.lemmas.List.{length-map}
 use Rattle.std.specs.List.{AllByRecursion}
 use Rattle.std.proofs.lemmas.List.Elements.{All-nil, All-cons, recursion_from_All}
 use Rattle.gimple_ir.specs.declared.types.Function.{Function}
@@ -16,10 +16,8 @@ use Rattle.module_stream.proofs.DeclarationLaws.{decls_again}
 use Rattle.module_stream.proofs.BodyLaws.{decls_of-without_bodies, without_bodies-declared}
 use Rattle.elf_container.specs.declared.sections.OwnSection.{OwnSection}
 use Rattle.elf_container.specs.Layout.{layout_of}
-use Rattle.elf_container.specs.Offsets.{offset_of}
 use Rattle.elf_container.specs.ObjectReading.{part}
 use Rattle.elf_container.proofs.ReadAgain.{read_again}
-use Rattle.elf_container.proofs.OffsetLaws.{section_at_offset}
 use Rattle.func_summary.specs.Summaries.{summary_of}
 use Rattle.func_summary.proofs.Checked.{all-from_places, all_at}
 use Rattle.lto_object.specs.declared.fault.ObjectFault.{ObjectFault}
@@ -40,6 +38,7 @@ use Rattle.lto_object.proofs.CheckedFacts.{Facts, facts, few_variables, few_labe
 use Rattle.lto_object.proofs.BodyFits.{body_fits}
 use Rattle.lto_object.proofs.SummaryFits.{summary_fits}
 use Rattle.lto_object.proofs.SymbolFits.{symbols_fit, container}
+use Rattle.lto_object.proofs.SizeLaws.{section_small}
 use Rattle.lto_object.proofs.FormLaws.{form_good}
 use Rattle.lto_object.proofs.CheckLaws.{IsSummed, true_summaries_good, symbols_good}
 use Rattle.lto_object.proofs.FilledLaws.{with_count, refilled_module}
@@ -113,11 +112,6 @@ bare_has_bounds m checked = record {
 
 -- ---- what is read
 
-part_small : (ss : List OwnSection) (place : ℕ) (s : OwnSection) → slice_get ss place ≡ Some s → length s.bytes ≤ length (layout_of ss)
-part_small ss place s here =
-    let back = drop (offset_of ss place) (layout_of ss) in
-    omega (arith, ap length (section_at_offset ss place s here), length-take (length s.bytes) back, length-drop (offset_of ss place) (layout_of ss))
-
 abbrev stored_as : Module → Stored
 stored_as m = record { source = m; summaries = summaries_of m; symbols = map stored_of (symbols_of m) }
 
@@ -130,7 +124,7 @@ streams_read m checked small =
     let bodies = bodies_of m.functions in
     let bounds = bare_has_bounds m checked in
     let d : read_decls (decls_of m) ≡ Ok (without_bodies m) = ap read_decls (sym (decls_of-without_bodies m)) ∙ decls_again (without_bodies m) (without_bodies-declared m checked.stated (has_counts m checked)) in
-    let few : length (bodies_bytes bodies) < 2 ^ 64 = omega (arith, small, part_small (sections_by m) 2 (section_of (codes ".gnu.lto_.bodies") (bodies_bytes bodies)) refl) in
+    let few : length (bodies_bytes bodies) < 2 ^ 64 = omega (arith, small, section_small (sections_by m) 2 (section_of (codes ".gnu.lto_.bodies") (bodies_bytes bodies)) refl) in
     let b : read_bodies (without_bodies m) (bodies_bytes bodies) ≡ Ok bodies = bodies_again (without_bodies m) bounds bodies (bodies_fit m checked) few in
     let s : read_summaries (without_bodies m) (summaries_bytes (summaries_of m)) ≡ Ok (summaries_of m) = summaries_again (without_bodies m) bounds (summaries_of m) (summaries_fit m checked) in
     let y : read_symbols (symbols_bytes (map stored_of (symbols_of m))) ≡ Ok (map stored_of (symbols_of m)) = symbols_again (map stored_of (symbols_of m)) (symbols_fit m checked) in

@@ -162,7 +162,7 @@ equal_numbers n = grind (arith, nat_tests)
 symbol_same : (s : StoredSymbol) → same_symbol s s ≡ true
 symbol_same s = rw (equal_numbers (flag_code s.function), equal_numbers (linkage_code s.linkage), (bytes_eq-Decides s.name s.name).1 refl) refl
 
-stored_are : (place : ℕ) (stored : List StoredSymbol) (ss : List Symbol) → differs_from place stored ss ≡ None → stored ≡ map stored_of ss
+pub stored_are : (place : ℕ) (stored : List StoredSymbol) (ss : List Symbol) → differs_from place stored ss ≡ None → stored ≡ map stored_of ss
 stored_are place [] [] h = refl
 stored_are place [] (s ∷ ss) h = cc
 stored_are place (t ∷ stored) [] h = cc

@@ -1,13 +1,14 @@
 -- One step of each loop over sections, functions and symbols.
-use Rattle.std.proofs.Common.{◌≡◌, ◌+◌, ◌<◌, ◌≤◌, ℕ, zero, suc, List, [], ◌∷◌, ◌++◌, length, map, take, drop, get_or, reverse, Result, Ok, Err, Bool, true, false, cond, Option, Some, None, refl, sym, ap, ap₂, ◌∙◌, ⊎_elim, arith}
+use Rattle.std.proofs.Common.{length-append, ◌≡◌, ◌+◌, ◌<◌, ◌≤◌, ℕ, zero, suc, List, [], ◌∷◌, ◌++◌, length, map, take, drop, get_or, reverse, Result, Ok, Err, Bool, true, false, cond, Option, Some, None, refl, sym, ap, ap₂, ◌∙◌, append_assoc, ⊎_elim, arith}
 use Rattle.std.specs.Prelude.{slice_get, unwrap_or, ◌||◌, ◌&&◌, option_to_list, nat_eq, is_ok, MatchResult}
-use Rattle.std.specs.List.{filter, filter_map, cons_option, list_any, list_all, range_with_len}
+use Rattle.std.specs.List.{filter, filter_map, cons_option, enumerate_from, list_any, list_all, range_with_len}
 use Rattle.std.specs.Str.{bytes_eq}
 use Rattle.std.proofs.lemmas.Bool.{cases_lt}
-use Rattle.std.proofs.lemmas.List.{reverse-append, append-nil, get_or_default, drop_all, length-map, length-drop}
+use Rattle.std.proofs.lemmas.List.{reverse-append, append-nil, get_or_default, drop_all, length-map, length-drop, length-take, map-append}
 use Rattle.std.proofs.lemmas.List.Folds.{list_any_at, list_any_none}
 use Rattle.std.proofs.lemmas.List.Elements.{filter-append, filter_map-append}
 use Rattle.std.proofs.lemmas.List.FromFn.{map-range_with_len_more}
+use Rattle.gimple_ir.specs.declared.types.Linkage.{Linkage}
 use Rattle.gimple_ir.specs.declared.types.Array.{Array}
 use Rattle.gimple_ir.specs.declared.types.Function.{Function}
 use Rattle.gimple_ir.specs.declared.types.Module.{Module}
@@ -21,11 +22,12 @@ use Rattle.func_summary.specs.Summaries.{summary_of}
 use Rattle.func_summary.proofs.Calls.{given_here}
 use Rattle.func_summary.proofs.Keyed.{nat_eq-same, nat_eq-other}
 use Rattle.lto_object.specs.declared.fault.ObjectFault.{ObjectFault}
+use Rattle.lto_object.proofs.SummaryFits.{few_filter}
 use Rattle.lto_object.specs.declared.symbol.Symbol.{Symbol}
 use Rattle.lto_object.specs.declared.symbols.StoredSymbol.{StoredSymbol}
 use Rattle.lto_object.specs.Bounds.{is_defined, defined_of}
 use Rattle.lto_object.specs.SymbolStream.{stored_of}
-use Rattle.lto_object.specs.Objects.{array_symbol, function_symbol, array_symbols, function_symbols}
+use Rattle.lto_object.specs.Objects.{is_listed, array_symbol, function_symbol, array_symbols, function_symbols}
 use Rattle.lto_object.specs.Forms.{all_names, double_from, has_form, misplaced_from}
 use Rattle.lto_object.specs.ObjectReading.{with_body, filled, summary_fault, first, summaries_fault_from, same_symbol, differs_from}
 
@@ -137,3 +139,94 @@ search_is xs x (Err i) h = sym (list_any_none (nat_eq x) xs none)
         (λ below e. absurd (omega (arith, e, here, h.1 k below)))
         (λ above e. absurd (omega (arith, e, here, h.2 k above lt)))
         (cases_lt k i))
+
+pub stored_end : (stored : List StoredSymbol) (ss : List Symbol) (i : ℕ) → length stored ≤ i → i < length ss → differs_from i (drop i stored) (drop i ss) ≡ Some i
+stored_end stored ss i le lt =
+    ap (λ ts. differs_from i ts (drop i ss)) (drop_all i stored le) ∙ missing i (drop i ss) (omega (arith, lt, length-drop i ss))
+  where
+    missing : (k : ℕ) (rest : List Symbol) → 1 ≤ length rest → differs_from k [] rest ≡ Some k
+    missing k [] h = absurd (omega (arith, h))
+    missing k (s ∷ rest) h = refl
+
+pub symbols_end : (stored : List StoredSymbol) (ss : List Symbol) (i : ℕ) → i < length stored → length ss ≤ i → differs_from i (drop i stored) (drop i ss) ≡ Some i
+symbols_end stored ss i lt le =
+    ap (differs_from i (drop i stored)) (drop_all i ss le) ∙ surplus i (drop i stored) (omega (arith, lt, length-drop i stored))
+  where
+    surplus : (k : ℕ) (rest : List StoredSymbol) → 1 ≤ length rest → differs_from k rest [] ≡ Some k
+    surplus k [] h = absurd (omega (arith, h))
+    surplus k (t ∷ rest) h = refl
+
+-- ---- ranks
+
+pub few_defined : (fs : List Function) (i : ℕ) → length (defined_of (take i fs)) ≤ length fs
+few_defined fs i = omega (arith, few_filter is_defined (take i fs), length-take i fs)
+
+pub count_here : (fs : List Function) (i : ℕ) (f : Function) → slice_get fs i ≡ Some f → length (defined_of (take i fs)) + length (defined_of (f ∷ [])) ≡ length (defined_of (take (i + 1) fs))
+count_here fs i f here =
+    sym (ap length (ap defined_of (take_here fs i f here) ∙ filter-append is_defined (take i fs) (f ∷ [])) ∙ length-append (defined_of (take i fs)) (defined_of (f ∷ [])))
+
+-- ---- true summaries
+
+pub undefined_here : (g : Function → Summary) (fs : List Function) (i : ℕ) (f : Function) → slice_get fs i ≡ Some f → is_defined f ≡ false → map g (defined_of (take i fs)) ≡ map g (defined_of (take (i + 1) fs))
+undefined_here g fs i f here e = sym (ap (map g) (defined_here fs i f here ∙ ap (λ b. defined_of (take i fs) ++ cond b (f ∷ []) []) e ∙ append-nil (defined_of (take i fs))))
+
+pub summed_here : (g : Function → Summary) (fs : List Function) (i : ℕ) (f : Function) → slice_get fs i ≡ Some f → is_defined f ≡ true → map g (defined_of (take i fs)) ++ g f ∷ [] ≡ map g (defined_of (take (i + 1) fs))
+summed_here g fs i f here e =
+    sym (ap (map g) (defined_here fs i f here ∙ ap (λ b. defined_of (take i fs) ++ cond b (f ∷ []) []) e) ∙ map-append g (defined_of (take i fs)) (f ∷ []))
+
+-- ---- symbols by the same names
+
+abbrev Same : List ℕ → List ℕ → Type 0
+Same a b = (x : ℕ) → list_any (nat_eq x) a ≡ list_any (nat_eq x) b
+
+listed_same : {P : Type 0} (g h : P → Option Symbol) → ((p : P) → g p ≡ h p) → (ps : List P) → filter_map g ps ≡ filter_map h ps
+listed_same g h e [] = refl
+listed_same g h e (p ∷ ps) = ap₂ cons_option (e p) (listed_same g h e ps)
+
+pub arrays_same : (a b : List ℕ) (arrays : List Array) → Same a b → array_symbols a arrays ≡ array_symbols b arrays
+arrays_same a b arrays e =
+    listed_same (λ pair. array_symbol a pair.0 pair.1) (λ pair. array_symbol b pair.0 pair.1)
+    (λ pair. ap (λ t. cond (is_listed pair.1.linkage t) (Some (record { name = pair.1.name; function = false; linkage = pair.1.linkage; place = pair.0 })) None) (e pair.0)) (enumerate_from 0 arrays)
+
+pub functions_same : (a b : List ℕ) (functions : List Function) → Same a b → function_symbols a functions ≡ function_symbols b functions
+functions_same a b functions e =
+    listed_same (λ pair. function_symbol a pair.0 pair.1) (λ pair. function_symbol b pair.0 pair.1)
+    (λ pair. ap (λ t. cond (is_listed pair.1.linkage t) (Some (record { name = pair.1.name; function = true; linkage = pair.1.linkage; place = pair.0 })) None) (e pair.0)) (enumerate_from 0 functions)
+
+-- ---- the listing loops
+
+-- one that is not listed leaves the list
+pub not_listed : (b : Bool) (s : Symbol) (front before after now : List Symbol) → now ≡ front ++ before → b ≡ false → after ≡ before ++ cons_option (cond b (Some s) None) [] → now ≡ front ++ after
+not_listed true s front before after now so_far e is = cc
+not_listed false s front before after now so_far e is = so_far ∙ ap (λ t. front ++ t) (sym (is ∙ append-nil before))
+
+-- one that is listed comes next
+pub is_next : (b : Bool) (s : Symbol) (front before after now new : List Symbol) → now ≡ front ++ before → new ≡ now ++ s ∷ [] → b ≡ true → after ≡ before ++ cons_option (cond b (Some s) None) [] → new ≡ front ++ after
+is_next true s front before after now new so_far push e is =
+    push ∙ ap (λ t. t ++ s ∷ []) so_far ∙ append_assoc front before (s ∷ []) ∙ ap (λ t. front ++ t) (sym is)
+is_next false s front before after now new so_far push e is = cc
+
+abbrev symbol_as : List ℕ → Bool → Linkage → ℕ → Symbol
+symbol_as n f l p = record { name = n; function = f; linkage = l; place = p }
+
+pub renamed : (front new : List Symbol) (n m : List ℕ) (f : Bool) (l : Linkage) (p : ℕ) → new ≡ front ++ symbol_as n f l p ∷ [] → n ≡ m → new ≡ front ++ symbol_as m f l p ∷ []
+renamed front new n m f l p e same = e ∙ ap (λ k. front ++ symbol_as k f l p ∷ []) same
+
+-- ---- one summary of the stored ones
+
+abbrev Rest : Module → List Function → List Summary → ℕ → ℕ → Option ObjectFault
+Rest m fs stored i k = summaries_fault_from m i (drop i fs) (drop k stored)
+
+pub summary_skipped : (m : Module) (fs : List Function) (stored : List Summary) (i k : ℕ) (f : Function) (s : Summary) → slice_get fs i ≡ Some f → slice_get stored k ≡ Some s → is_defined f ≡ false → Rest m fs stored i k ≡ Rest m fs stored (i + 1) k
+summary_skipped m fs stored i k f s here at e =
+    summary_here m fs stored i k f s here at ∙ ap (λ b. cond b (first (summary_fault m i f s) (Rest m fs stored (i + 1) (k + 1))) (Rest m fs stored (i + 1) k)) e
+
+pub summary_none : (m : Module) (fs : List Function) (stored : List Summary) (i k : ℕ) (f : Function) (s : Summary) → slice_get fs i ≡ Some f → slice_get stored k ≡ Some s → is_defined f ≡ true → summary_fault m i f s ≡ None → Rest m fs stored i k ≡ Rest m fs stored (i + 1) (k + 1)
+summary_none m fs stored i k f s here at e none =
+    summary_here m fs stored i k f s here at ∙ ap (λ b. cond b (first (summary_fault m i f s) (Rest m fs stored (i + 1) (k + 1))) (Rest m fs stored (i + 1) k)) e
+    ∙ ap (λ o. first o (Rest m fs stored (i + 1) (k + 1))) none
+
+pub summary_some : (m : Module) (fs : List Function) (stored : List Summary) (i k : ℕ) (f : Function) (s : Summary) (fault : ObjectFault) → slice_get fs i ≡ Some f → slice_get stored k ≡ Some s → is_defined f ≡ true → summary_fault m i f s ≡ Some fault → Rest m fs stored i k ≡ Some fault
+summary_some m fs stored i k f s fault here at e some =
+    summary_here m fs stored i k f s here at ∙ ap (λ b. cond b (first (summary_fault m i f s) (Rest m fs stored (i + 1) (k + 1))) (Rest m fs stored (i + 1) k)) e
+    ∙ ap (λ o. first o (Rest m fs stored (i + 1) (k + 1))) some

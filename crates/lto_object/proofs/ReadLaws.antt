@@ -6,14 +6,15 @@ use Rattle.std.specs.List.{AllByRecursion}
 use Rattle.std.proofs.lemmas.List.Elements.{All-nil, All-cons, recursion_from_All}
 use Rattle.gimple_ir.specs.declared.types.Function.{Function}
 use Rattle.gimple_ir.specs.declared.types.Module.{Module}
-use Rattle.gimple_ir.specs.Programs.{IsChecked}
+use Rattle.gimple_ir.specs.declared.types.Statement.{Statement}
+use Rattle.gimple_ir.specs.Programs.{IsChecked, IsStated}
 use Rattle.module_stream.specs.declared.bounds.BodyBounds.{BodyBounds}
 use Rattle.module_stream.specs.Fields.{FitEach}
-use Rattle.module_stream.specs.Bodies.{FitsBody}
-use Rattle.module_stream.specs.Declarations.{decls_of, without_body, without_bodies}
+use Rattle.module_stream.specs.Bodies.{body_of, FitsBody}
+use Rattle.module_stream.specs.Declarations.{decls_of, AreDeclarations, without_body, without_bodies}
 use Rattle.module_stream.specs.DeclarationReading.{read_decls}
 use Rattle.module_stream.proofs.DeclarationLaws.{decls_again}
-use Rattle.module_stream.proofs.BodyLaws.{decls_of-without_bodies, without_bodies-declared}
+use Rattle.module_stream.proofs.BodyLaws.{decls_of-without_bodies, without_bodies-declared, declared-stated}
 use Rattle.elf_container.specs.declared.sections.OwnSection.{OwnSection}
 use Rattle.elf_container.specs.Layout.{layout_of}
 use Rattle.elf_container.specs.ObjectReading.{part}
@@ -30,7 +31,7 @@ use Rattle.lto_object.specs.Objects.{summaries_of, symbols_of, section_of, secti
 use Rattle.lto_object.specs.declared.streams.Streams.{Streams}
 use Rattle.lto_object.specs.Forms.{IsForm}
 use Rattle.lto_object.specs.Streamed.{AreStreams}
-use Rattle.lto_object.specs.ObjectReading.{◌>>=◌, read_file, Stored, read_streams, checked as checked_of, read_of, Gives}
+use Rattle.lto_object.specs.ObjectReading.{◌>>=◌, read_file, with_bodies, Stored, read_streams, checked as checked_of, read_of, Gives}
 use Rattle.lto_object.proofs.BodyLaws.{bodies_again}
 use Rattle.lto_object.proofs.SummaryLaws.{summaries_again}
 use Rattle.lto_object.proofs.SymbolLaws.{symbols_again}
@@ -41,7 +42,7 @@ use Rattle.lto_object.proofs.SymbolFits.{symbols_fit, container}
 use Rattle.lto_object.proofs.SizeLaws.{section_small}
 use Rattle.lto_object.proofs.FormLaws.{form_good}
 use Rattle.lto_object.proofs.CheckLaws.{IsSummed, true_summaries_good, symbols_good}
-use Rattle.lto_object.proofs.FilledLaws.{with_count, refilled_module}
+use Rattle.lto_object.proofs.FilledLaws.{with_count, refilled_module, filled_decls, filled_bounds, filled_bodies, with_bodies-stated}
 
 -- ---- the streams fit the module without its bodies
 
@@ -183,3 +184,20 @@ pub object_found : (r : Result ObjectData ObjectError) (bytes : List ℕ) (ss : 
     → IfOk r IsObject → IfOk r (λ o. o.source ≡ s.source) → IfOk r (λ o. (s.summaries ≡ o.summaries) × (s.symbols ≡ map stored_of o.symbols)) → IfOk r (λ o. IsObject o × (bytes ≡ object_of o.source))
 object_found (Ok o) bytes ss s laid_so form streams object source same = (object, object_is bytes ss s o laid_so form streams object source same)
 object_found (Err e) bytes ss s laid_so form streams object source same = tt
+
+-- ---- what the streams hold
+
+pub streams_are : (ss : List OwnSection) (declared : Module) (bodies : List (List Statement)) (s : Streams) → AreDeclarations declared → length declared.structs + length declared.arrays + length declared.functions < 2 ^ 32
+    → part 1 ss ≡ decls_of declared → FitBodies declared bodies → part 2 ss ≡ bodies_bytes bodies → FitSummaries declared s.summaries → part 3 ss ≡ summaries_bytes s.summaries → part 4 ss ≡ symbols_bytes s.symbols
+    → s.source ≡ with_bodies declared bodies → map (λ b. b.now) s.bodies.items ≡ map body_of bodies → AreStreams ss s
+streams_are ss declared bodies s are few decls fit bytes summaries spelled symbols source lent =
+    let filled : bodies_of s.source.functions ≡ bodies = ap (λ (m : Module). bodies_of m.functions) source ∙ filled_bodies declared bodies fit in
+    record {
+      stated = subst (λ (m : Module). IsStated m) (sym source) (with_bodies-stated declared bodies (declared-stated declared are few) fit);
+      fit = subst (λ (bs : List BodyBounds). FitEach FitsSummary bs s.summaries) (sym (ap bounds_in source ∙ filled_bounds declared bodies)) summaries;
+      declarations = decls ∙ sym (ap decls_of source ∙ filled_decls declared bodies);
+      spelled_bodies = bytes ∙ ap bodies_bytes (sym filled);
+      spelled_summaries = spelled;
+      spelled_symbols = symbols;
+      lent = lent ∙ ap (map body_of) (sym filled);
+    }

@@ -58,7 +58,7 @@ all_filter P p (x ∷ xs) h = by (p x) (h 0 x refl) (all_filter P p xs (λ i y h
     by true one rest = All-cons P x (filter p xs) one rest
     by false one rest = rest
 
-few_filter : {X : Type 0} (p : X → Bool) (xs : List X) → length (filter p xs) ≤ length xs
+pub few_filter : {X : Type 0} (p : X → Bool) (xs : List X) → length (filter p xs) ≤ length xs
 few_filter p [] = omega arith
 few_filter p (x ∷ xs) = by (p x) (few_filter p xs)
   where

@@ -117,14 +117,15 @@ fn array_symbols(
 {
     for place in 0..arrays.len() {
         let array = &arrays[place];
-        if is_listed(array.linkage, is_among(named, place as u32)) {
-            symbols.push(Symbol {
-                name: array.name.copy()?,
-                function: false,
-                linkage: array.linkage,
-                place: place as u32,
-            })?;
+        if !is_listed(array.linkage, is_among(named, place as u32)) {
+            continue;
         }
+        symbols.push(Symbol {
+            name: array.name.copy()?,
+            function: false,
+            linkage: array.linkage,
+            place: place as u32,
+        })?;
     }
     Ok(symbols)
 }
@@ -141,14 +142,15 @@ fn function_symbols(
 {
     for place in 0..functions.len() {
         let function = &functions[place];
-        if is_listed(function.linkage, is_among(named, place as u32)) {
-            symbols.push(Symbol {
-                name: function.name.copy()?,
-                function: true,
-                linkage: function.linkage,
-                place: place as u32,
-            })?;
+        if !is_listed(function.linkage, is_among(named, place as u32)) {
+            continue;
         }
+        symbols.push(Symbol {
+            name: function.name.copy()?,
+            function: true,
+            linkage: function.linkage,
+            place: place as u32,
+        })?;
     }
     Ok(symbols)
 }

@@ -38,14 +38,14 @@ use Rattle.func_summary.specs.Ready.{CanUnary, CanBinary, CanCompute, IsArgument
 
 -- ---- a test that passes
 
-both-true : (a b : Bool) → (a && b) ≡ true → (a ≡ true) × (b ≡ true)
+pub both-true : (a b : Bool) → (a && b) ≡ true → (a ≡ true) × (b ≡ true)
 both-true true b h = (refl, h)
 both-true false b h = cc
 
-below : (a b : ℕ) → nat_lt a b ≡ true → a < b
+pub below : (a b : ℕ) → nat_lt a b ≡ true → a < b
 below a b h = grind (arith, nat_tests)
 
-within : (a b : ℕ) → nat_le a b ≡ true → a ≤ b
+pub within : (a b : ℕ) → nat_le a b ≡ true → a ≤ b
 within a b h = grind (arith, nat_tests)
 
 -- ---- no fault
@@ -54,42 +54,42 @@ first_of-none : (a : Option TypeFault) (rest : List (Option TypeFault)) → firs
 first_of-none None rest h = (refl, h)
 first_of-none (Some f) rest h = cc
 
-three-none : (a b c : Option TypeFault) → first_of (a ∷ b ∷ c ∷ []) ≡ None → (a ≡ None) × (b ≡ None) × (c ≡ None)
+pub three-none : (a b c : Option TypeFault) → first_of (a ∷ b ∷ c ∷ []) ≡ None → (a ≡ None) × (b ≡ None) × (c ≡ None)
 three-none a b c h =
     let later = first_of-none a (b ∷ c ∷ []) h in
     let last = first_of-none b (c ∷ []) later.1 in
     (later.0, last.0, (first_of-none c [] last.1).0)
 
-first_failed-none : (b : Bool) (k : TypeKind) (rest : List (Bool × TypeKind)) → first_failed ((b, k) ∷ rest) ≡ None → b ≡ true
+pub first_failed-none : (b : Bool) (k : TypeKind) (rest : List (Bool × TypeKind)) → first_failed ((b, k) ∷ rest) ≡ None → b ≡ true
 first_failed-none true k rest h = refl
 first_failed-none false k rest h = cc
 
-three-pass : (a b c : Bool) (j k l : TypeKind) (rest : List (Bool × TypeKind)) → first_failed ((a, j) ∷ (b, k) ∷ (c, l) ∷ rest) ≡ None
+pub three-pass : (a b c : Bool) (j k l : TypeKind) (rest : List (Bool × TypeKind)) → first_failed ((a, j) ∷ (b, k) ∷ (c, l) ∷ rest) ≡ None
     → (a ≡ true) × (b ≡ true) × (c ≡ true)
 three-pass true true true j k l rest h = (refl, refl, refl)
 three-pass true true false j k l rest h = cc
 three-pass true false c j k l rest h = cc
 three-pass false b c j k l rest h = cc
 
-counts-pass : (double : Bool) (structs : ℕ) (f : Function) → head_kind double structs f ≡ None → counts_fit f ≡ true
+pub counts-pass : (double : Bool) (structs : ℕ) (f : Function) → head_kind double structs f ≡ None → counts_fit f ≡ true
 counts-pass double structs f h =
     (three-pass (not double && not (repeats (map (λ v. v.name) f.variables)))
     (not (is_builtin f.name) && not (list_any (λ v. is_builtin v.name) f.variables) && list_all (λ v. knows_struct structs v.ty) f.variables)
     (counts_fit f) DoubleName UnknownName TooMany ((labels_stand f, BadLabel) ∷ (is_extern f.linkage || ends_closed f.body, OpenEnd) ∷ []) h).2
 
-bound-passes : (f : Function) → bound_kind f ≡ None → nat_le (code_bound_of f) 524288 ≡ true
+pub bound-passes : (f : Function) → bound_kind f ≡ None → nat_le (code_bound_of f) 524288 ≡ true
 bound-passes f h = first_failed-none (nat_le (code_bound_of f) 524288) TooMany [] h
 
-statement-passes : (sc : Scope) (s : Statement) → statement_kind sc s ≡ None → (knows sc s ≡ true) × (counts_arguments sc s ≡ true) × (types_fit sc s ≡ true)
+pub statement-passes : (sc : Scope) (s : Statement) → statement_kind sc s ≡ None → (knows sc s ≡ true) × (counts_arguments sc s ≡ true) × (types_fit sc s ≡ true)
 statement-passes sc s h =
     three-pass (knows sc s) (counts_arguments sc s) (types_fit sc s) UnknownName WrongCount WrongType
     ((not (negates_literal s), NegLiteral) ∷ (cases_ascend s, BadCase) ∷ []) h
 
-fault_at-none : (item st : ℕ) (o : Option TypeKind) → fault_at item st o ≡ None → o ≡ None
+pub fault_at-none : (item st : ℕ) (o : Option TypeKind) → fault_at item st o ≡ None → o ≡ None
 fault_at-none item st None h = refl
 fault_at-none item st (Some k) h = cc
 
-faults_from-none : {X : Type 0} (fault : ℕ → X → Option TypeFault) (n : ℕ) (xs : List X) → faults_from fault n xs ≡ None
+pub faults_from-none : {X : Type 0} (fault : ℕ → X → Option TypeFault) (n : ℕ) (xs : List X) → faults_from fault n xs ≡ None
     → (i : ℕ) (x : X) → slice_get xs i ≡ Some x → fault (n + i) x ≡ None
 faults_from-none fault n [] h i x here = cc
 faults_from-none fault n (y ∷ xs) h zero x here =
@@ -101,7 +101,7 @@ faults_from-none fault n (y ∷ xs) h (suc i) x here =
 
 -- ---- types that are alike
 
-same_type-is : (a b : ScalarType) → same_type a b ≡ true → a ≡ b
+pub same_type-is : (a b : ScalarType) → same_type a b ≡ true → a ≡ b
 same_type-is Int Int h = refl
 same_type-is Int UnsignedInt h = cc
 same_type-is Int LongInt h = cc
@@ -260,30 +260,30 @@ few_places variables (Exit a) = omega (arith, few_one false a)
 
 -- ---- the whole body
 
-all-from_places : {X : Type 0} (P : X → Type 0) (xs : List X) → ((i : ℕ) (x : X) → slice_get xs i ≡ Some x → P x) → All P xs
+pub all-from_places : {X : Type 0} (P : X → Type 0) (xs : List X) → ((i : ℕ) (x : X) → slice_get xs i ≡ Some x → P x) → All P xs
 all-from_places P xs h k d inside = h k (get_or xs k d) (slice_get-get_or xs k d inside)
 
-place_inside : {X : Type 0} (xs : List X) (i : ℕ) (x : X) → slice_get xs i ≡ Some x → i < length xs
+pub place_inside : {X : Type 0} (xs : List X) (i : ℕ) (x : X) → slice_get xs i ≡ Some x → i < length xs
 place_inside [] i x here = cc
 place_inside (y ∷ xs) zero x here = omega arith
 place_inside (y ∷ xs) (suc i) x here = omega (arith, place_inside xs i x here)
 
-all_at : {X : Type 0} (P : X → Type 0) (xs : List X) → All P xs → (i : ℕ) (x : X) → slice_get xs i ≡ Some x → P x
+pub all_at : {X : Type 0} (P : X → Type 0) (xs : List X) → All P xs → (i : ℕ) (x : X) → slice_get xs i ≡ Some x → P x
 all_at P xs all i x here = subst P (get_or_from_slice_get xs i x x here) (all i x (place_inside xs i x here))
 
-all_flat_map : {X Y : Type 0} (P : Y → Type 0) (g : X → List Y) (xs : List X) → All (λ x. All P (g x)) xs → All P (flat_map g xs)
+pub all_flat_map : {X Y : Type 0} (P : Y → Type 0) (g : X → List Y) (xs : List X) → All (λ x. All P (g x)) xs → All P (flat_map g xs)
 all_flat_map P g [] all = All-nil P
 all_flat_map P g (x ∷ xs) all =
     All-append P (g x) (flat_map g xs) (All-head (λ y. All P (g y)) x xs all) (all_flat_map P g xs (All-tail (λ y. All P (g y)) x xs all))
 
-few_in_all : (f : Function) → length (places_of f) ≤ code_bound_of f
+pub few_in_all : (f : Function) → length (places_of f) ≤ code_bound_of f
 few_in_all f =
     let places = length-flat_map (operands_of f.variables) f.body in
     let fewer = sum_by-le-sum_by (λ s. length (operands_of f.variables s)) (λ s. 7 + 11 * operands_in f.variables s) f.body (λ s. omega (arith, few_places f.variables s)) in
     omega (arith, places, fewer)
 
 -- the body of a function whose statements have no fault
-body-none : (m : Module) (f : Function) (e : Bool) → e ≡ is_extern f.linkage → (is_extern f.linkage ≡ true → f.body ≡ [])
+pub body-none : (m : Module) (f : Function) (e : Bool) → e ≡ is_extern f.linkage → (is_extern f.linkage ≡ true → f.body ≡ [])
     → (item : ℕ) → faults_from (λ place st. fault_at item place (statement_kind (scope_in m f) st)) 0 (body_of f) ≡ None
     → (i : ℕ) (s : Statement) → slice_get f.body i ≡ Some s → statement_kind (scope_in m f) s ≡ None
 body-none m f true e empty item h i s here =

@@ -1,0 +1,17 @@
+pub mod BoundLaws
+pub mod JumpLaws
+pub mod SummaryLaws
+pub mod BodyLaws
+pub mod SymbolLaws
+pub mod Elements
+pub mod CheckedFacts
+pub mod BodyFits
+pub mod SummaryFits
+pub mod FormLaws
+pub mod CheckLaws
+pub mod FilledLaws
+pub mod SizeLaws
+pub mod SymbolFits
+pub mod ReadLaws
+pub mod LoopLaws
+pub mod RankLaws

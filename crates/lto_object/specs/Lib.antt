@@ -7,3 +7,4 @@ pub mod Objects
 pub mod Forms
 pub mod ObjectReading
 pub mod Streamed
+pub mod Rows

@@ -1,11 +1,11 @@
 -- The stream of symbols: their count, and of each whether it is an array or a function, its linkage and its name.
 use Rattle.std.specs.Prelude.{ℕ, List, ◌∷◌, map, Result}
-use Rattle.cursors.specs.Cursor.{Cursor}
+use Rattle.cursors.specs.Cursor.{Cursor, offset_of}
 use Rattle.gimple_ir.specs.Names.{IsName}
 use Rattle.module_stream.specs.Codes.{linkage_table, linkage_code, flag_table, flag_code}
 use Rattle.module_stream.specs.Fields.{counted_of, FitsAll, text_of}
-use Rattle.module_stream.specs.Readers.{coded, text, passing, made, both, counted, whole}
-use Rattle.elf_container.specs.Reading.{is_name_of}
+use Rattle.module_stream.specs.Readers.{◌>>=◌, coded, known, text, made, both, counted, whole}
+use Rattle.elf_container.specs.Reading.{named}
 use Rattle.lto_object.specs.declared.symbol.Symbol.{Symbol}
 use Rattle.lto_object.specs.declared.symbols.StoredSymbol.{StoredSymbol}
 
@@ -28,7 +28,7 @@ FitSymbols symbols = FitsAll (λ s. IsName s.name) symbols
 
 -- what a `Name` holds
 unfoldable pub symbol_name_at : Cursor → Result (List ℕ × Cursor) ℕ
-symbol_name_at = passing is_name_of text
+symbol_name_at c = text c >>= λ t. known (offset_of c) (named t.0) t.1
 
 unfoldable pub symbol_at : Cursor → Result (StoredSymbol × Cursor) ℕ
 symbol_at =

@@ -142,6 +142,18 @@ fn all_bodies<'a>(
     Ok(bodies)
 }
 
+fn declared_bodies<'a>(
+    alloc: Global,
+    bytes: &'a [u8],
+    declared: &Module,
+) -> Result<Vec<StoredBody<'a>>, StreamError>
+    requires { HasBounds declared.now }
+    ensures { GivesAllSeen (λ bodies. bodies.items) result (read_bodies declared.now bytes.now) }
+{
+    let bounds = bounds_in(alloc, declared)?;
+    all_bodies(alloc, bytes, bounds.as_slice())
+}
+
 /// The bodies that the bytes spell, all of the bytes: one for each function of the declared module that has one, in order,
 /// and with numbers that the module has. Each lends its bytes from these.
 pub fn decode_bodies<'a>(
@@ -161,6 +173,5 @@ pub fn decode_bodies<'a>(
     ensures exact { GivesAllSeen (λ bodies. bodies.items) result (read_bodies declared.now bytes.now) }
     ensures within { IsWithin (length bytes.now) result }
 {
-    let bounds = bounds_in(alloc, declared)?;
-    all_bodies(alloc, bytes, bounds.as_slice())
+    declared_bodies(alloc, bytes, declared)
 }

@@ -1,5 +1,5 @@
 //! What the numbers in the streams of each function with a body may name.
-ghost use Rattle.std.specs.Prelude.{◌≡◌, ◌++◌, ◌<◌, ◌^◌, length, map, IfOk, OnOk};
+ghost use Rattle.std.specs.Prelude.{◌≡◌, ◌++◌, ◌<◌, ◌^◌, [], ◌∷◌, length, map, IfOk, OnOk};
 ghost use Rattle.gimple_ir.specs.Statements.{component_types};
 ghost use Rattle.lto_object.specs.Bounds.{is_defined, defined_of, bounds_of, bounds_in, HasFewNames, HasBounds};
 

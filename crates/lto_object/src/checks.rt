@@ -1,8 +1,9 @@
 //! The checks of what the streams of an object hold: of the module, of its summaries and of its symbols.
-ghost use Rattle.std.specs.Prelude.{◌≡◌, ◌≤◌, ◌<◌, ◌^◌, length, map, slice_get, None, IfOk, IfSome};
+ghost use Rattle.std.specs.Prelude.{◌≡◌, ◌≤◌, ◌<◌, ◌^◌, length, map, slice_get, [], ◌∷◌, None, IfOk, IfSome};
 ghost use Rattle.gimple_ir.specs.Programs.{IsStated, IsChecked};
 ghost use Rattle.gimple_ir.specs.Checks.{fault_of};
 ghost use Rattle.module_stream.specs.Bodies.{body_of};
+ghost use Rattle.lto_object.specs.Bounds.{defined_of};
 ghost use Rattle.lto_object.specs.BodyStream.{bodies_of};
 ghost use Rattle.lto_object.specs.SymbolStream.{stored_of};
 ghost use Rattle.lto_object.specs.SummaryStream.{FitSummaries};
@@ -114,11 +115,13 @@ fn summaries_fault(
         if next >= stored.len() {
             return Ok(None);
         }
-        if is_defined(source.functions.get(place)) {
-            if let Some(fault) = summary_fault(alloc, source, place as u32, &stored[next])? {
-                return Ok(Some(fault));
-            }
-            next += 1;
+        let function = source.functions.get(place);
+        if !is_defined(function) {
+            continue;
+        }
+        match summary_fault(alloc, source, place as u32, &stored[next])? {
+            None => next += 1,
+            Some(fault) => return Ok(Some(fault)),
         }
     }
     Ok(None)
@@ -157,6 +160,13 @@ fn differs(stored: &[StoredSymbol], symbols: &[Symbol]) -> Option<usize>
 
 // ---- the whole
 
+/// How many bodies the function has.
+fn bodies_in(function: &Function) -> u32
+    ensures { result ≡ length (defined_of (function.now ∷ [])) }
+{
+    if is_defined(function) { 1 } else { 0 }
+}
+
 /// For each function how many functions with a body stand before it.
 fn ranks(alloc: Global, functions: &[Function]) -> Result<Vec<u32>, NoMemory>
     requires { length functions.now < 2 ^ 32 }
@@ -166,9 +176,7 @@ fn ranks(alloc: Global, functions: &[Function]) -> Result<Vec<u32>, NoMemory>
     let mut count = 0u32;
     for function in functions {
         ranks.push(count)?;
-        if is_defined(function) {
-            count += 1;
-        }
+        count += bodies_in(function);
     }
     Ok(ranks)
 }
@@ -191,14 +199,18 @@ pub fn checked<'a>(alloc: Global, streams: Streams<'a>) -> Result<Object<'a>, Ob
         symbols: stored,
     } = streams;
     type_fault(alloc, &source)?;
-    if let Some(fault) = summaries_fault(alloc, &source, summaries.as_slice())? {
-        return Err(ObjectError::Fault(fault));
+    match summaries_fault(alloc, &source, summaries.as_slice())? {
+        None => {}
+        Some(fault) => return Err(ObjectError::Fault(fault)),
     }
     let symbols = symbols(alloc, &source)?;
-    if let Some(place) = differs(stored.as_slice(), symbols.as_slice()) {
-        return Err(ObjectError::Fault(ObjectFault::SymbolsDiffer {
-            place: place as u32,
-        }));
+    match differs(stored.as_slice(), symbols.as_slice()) {
+        None => {}
+        Some(place) => {
+            return Err(ObjectError::Fault(ObjectFault::SymbolsDiffer {
+                place: place as u32,
+            }));
+        }
     }
     let ranks = ranks(alloc, source.functions.as_slice())?;
     Ok(Object::new(source, summaries, symbols, bodies, ranks))

@@ -69,7 +69,7 @@ fn has_section(sections: &[Section], name: &str) -> bool
     ensures { result ≡ is_among (map (λ s. s.name) (map owned sections.now)) name.now }
 {
     for section in sections {
-        if section.name.as_str() == name {
+        if name == section.name.as_str() {
             return true;
         }
     }

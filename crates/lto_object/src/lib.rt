@@ -12,7 +12,7 @@ mod checks;
 mod fault;
 mod form;
 mod jump_codes;
-mod lgen;
+
 mod listing;
 mod object;
 mod reading;
@@ -22,10 +22,11 @@ mod summaries;
 mod summary_fields;
 mod symbol;
 mod symbols;
+mod writing;
 
 pub use bodies::{StoredBody, decode_bodies, encode_bodies};
 pub use fault::{ObjectError, ObjectFault};
-pub use lgen::lgen;
+pub use writing::lgen;
 pub use object::Object;
 pub use reading::read_object;
 pub use summaries::{decode_summaries, encode_summaries};

@@ -113,18 +113,19 @@ fn array_symbols(
 ) -> Result<Vec<Symbol>, NoMemory>
     requires few { length arrays.now < 2 ^ 32 }
     requires ascend { IsNonDecreasing named.now }
-    ensures { IfOk result (λ all. all.items ≡ symbols.entry.items ++ array_symbols named.now arrays.now) }
+    ensures { IfOk result (λ all. all.items ≡ symbols.items ++ array_symbols named.now arrays.now) }
 {
     for place in 0..arrays.len() {
         let array = &arrays[place];
-        if is_listed(array.linkage, is_among(named, place as u32)) {
-            symbols.push(Symbol {
-                name: array.name.copy()?,
-                function: false,
-                linkage: array.linkage,
-                place: place as u32,
-            })?;
+        if !is_listed(array.linkage, is_among(named, place as u32)) {
+            continue;
         }
+        symbols.push(Symbol {
+            name: array.name.copy()?,
+            function: false,
+            linkage: array.linkage,
+            place: place as u32,
+        })?;
     }
     Ok(symbols)
 }
@@ -137,18 +138,19 @@ fn function_symbols(
 ) -> Result<Vec<Symbol>, NoMemory>
     requires few { length functions.now < 2 ^ 32 }
     requires ascend { IsNonDecreasing named.now }
-    ensures { IfOk result (λ all. all.items ≡ symbols.entry.items ++ function_symbols named.now functions.now) }
+    ensures { IfOk result (λ all. all.items ≡ symbols.items ++ function_symbols named.now functions.now) }
 {
     for place in 0..functions.len() {
         let function = &functions[place];
-        if is_listed(function.linkage, is_among(named, place as u32)) {
-            symbols.push(Symbol {
-                name: function.name.copy()?,
-                function: true,
-                linkage: function.linkage,
-                place: place as u32,
-            })?;
+        if !is_listed(function.linkage, is_among(named, place as u32)) {
+            continue;
         }
+        symbols.push(Symbol {
+            name: function.name.copy()?,
+            function: true,
+            linkage: function.linkage,
+            place: place as u32,
+        })?;
     }
     Ok(symbols)
 }
@@ -161,8 +163,8 @@ pub fn symbols(alloc: Global, source: &Module) -> Result<List<Symbol>, NoMemory>
 {
     let functions = source.functions.as_slice();
     let named = ascending(named_arrays(alloc, functions)?);
-    let symbols = array_symbols(Vec::new(alloc), source.arrays.as_slice(), named.as_slice())?;
     let called = ascending(named_functions(alloc, functions)?);
+    let symbols = array_symbols(Vec::new(alloc), source.arrays.as_slice(), named.as_slice())?;
     let all = function_symbols(symbols, functions, called.as_slice())?;
     Ok(List::from_vec(all))
 }

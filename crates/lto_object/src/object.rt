@@ -42,7 +42,9 @@ impl<'a> Object<'a> {
     ) -> Object<'a>
         requires object { IsObject (record { source = source; summaries = summaries; symbols = symbols; bodies = map (λ b. b.now) bodies.items }) }
         requires ranks { ranks.items ≡ ranks_of source.functions }
-        ensures { result.source ≡ source.entry }
+        ensures source { result.source ≡ source }
+        ensures summaries { result.summaries ≡ summaries }
+        ensures symbols { result.symbols ≡ symbols }
     {
         Object {
             source,

@@ -1,28 +1,37 @@
 //! The object of a small module: its bytes, each cut of it, and each changed byte.
-ghost use Rattle.std.specs.Prelude.{◌≡◌, IfOk};
-ghost use Rattle.gimple_ir.specs.Programs.{IsChecked};
+ghost use Rattle.std.specs.Prelude.{◌≡◌, pos, IfOk};
+ghost use Rattle.gimple_ir.specs.Programs.{IsStated};
+ghost use Rattle.lto_object.specs.Rows.{int_of, greeting, hidden_array};
 
+use crate::bounds::is_defined;
 use crate::{Object, ObjectError, ObjectFault, lgen, read_object};
+use gimple_checks::check_module;
 use gimple_ir::*;
 use std::alloc::Global;
 use std::test::Fail;
 
-fn name(alloc: Global, text: &[u8]) -> Result<Name, Fail> {
+fn name(alloc: Global, text: &[u8]) -> Result<Name, Fail>
+    ensures { IfOk result (λ name. name ≡ text.now) }
+{
     match Name::read(alloc, text)? {
         Some(name) => Ok(name),
         None => Err("no name")?,
     }
 }
 
-fn int(num: i128) -> Operand {
+fn int(num: u8) -> Operand
+    ensures { result ≡ int_of num }
+{
     Operand::Literal(Value {
         ty: ScalarType::Int,
-        num,
+        num: i128::from(num),
     })
 }
 
 /// `int main () { __builtin_putchar (72); __builtin_putchar (105); return 7; }`
-fn greeting(alloc: Global) -> Result<Module, Fail> {
+fn greeting(alloc: Global) -> Result<Module, Fail>
+    ensures { IfOk result (λ source. source ≡ greeting) }
+{
     let body = vec![in alloc;
         Statement::Putchar(int(72)),
         Statement::Putchar(int(105)),
@@ -45,7 +54,9 @@ fn greeting(alloc: Global) -> Result<Module, Fail> {
 }
 
 /// `static int A[3] = {5};`
-fn hidden_array(alloc: Global) -> Result<Module, Fail> {
+fn hidden_array(alloc: Global) -> Result<Module, Fail>
+    ensures { IfOk result (λ source. source ≡ hidden_array) }
+{
     let array = Array {
         name: name(alloc, b"A")?,
         linkage: Linkage::Static,
@@ -68,6 +79,36 @@ fn with_byte(alloc: Global, bytes: &[u8], place: usize, value: u8) -> Result<Vec
     Ok(changed)
 }
 
+/// The object of a module, which is checked first.
+fn stored(alloc: Global, source: &Module) -> Result<Vec<u8>, Fail>
+    requires { IsStated source.now }
+{
+    match check_module(alloc, source) {
+        Ok(()) => Ok(lgen(alloc, source)?),
+        Err(_) => Err("a fault")?,
+    }
+}
+
+/// The object that the bytes are, which are few.
+fn read(alloc: Global, bytes: &[u8]) -> Result<Object<'_>, ObjectError> {
+    if bytes.len() > 4_294_967_294 {
+        return Err(ObjectError::NoMemory);
+    }
+    read_object(alloc, bytes)
+}
+
+/// The code bound of the first function, and how many bytes its body has.
+fn first_function(object: &Object) -> Option<(u64, usize)> {
+    let source = object.module();
+    if source.functions.len() == 0 {
+        return None;
+    }
+    if !is_defined(source.functions.get(0)) {
+        return None;
+    }
+    Some((object.summary(0).code_bound, object.body(0).len()))
+}
+
 fn fault_of(answer: Result<Object<'_>, ObjectError>) -> Option<ObjectFault> {
     match answer {
         Err(ObjectError::Fault(fault)) => Some(fault),
@@ -78,7 +119,7 @@ fn fault_of(answer: Result<Object<'_>, ObjectError>) -> Option<ObjectFault> {
 #[test]
 fn a_small_module_has_its_object(rt: HostRuntime) -> Result<(), Fail> {
     let source = greeting(rt.alloc())?;
-    let file = lgen(rt.alloc(), &source)?;
+    let file = stored(rt.alloc(), &source)?;
     assert_eq!(rt; file.len(), 672);
     let rows: [(usize, &[u8]); 5] = [
         (64, b"\x01"),
@@ -90,21 +131,23 @@ fn a_small_module_has_its_object(rt: HostRuntime) -> Result<(), Fail> {
     for (offset, bytes) in rows {
         assert_eq!(rt; file.get(offset..offset + bytes.len()), Some(bytes), "at {offset}");
     }
-    let object = read_object(rt.alloc(), file.as_slice())?;
+    let object = read(rt.alloc(), file.as_slice())?;
     assert!(rt; *object.module() == source);
     assert_eq!(rt; object.symbols().len(), 1);
-    assert_eq!(rt; object.symbols().get(0).name.as_str(), "main");
-    assert_eq!(rt; object.symbols().get(0).place, 0);
-    assert_eq!(rt; object.summary(0).code_bound, 240);
-    assert_eq!(rt; object.body(0).len(), 10);
+    for symbol in object.symbols().as_slice() {
+        assert_eq!(rt; symbol.name.as_str(), "main");
+        assert_eq!(rt; symbol.place, 0);
+        assert!(rt; symbol.function);
+    }
+    assert_eq!(rt; first_function(&object), Some((240, 10)));
     Ok(())
 }
 
 #[test]
 fn a_static_array_is_no_symbol(rt: HostRuntime) -> Result<(), Fail> {
     let source = hidden_array(rt.alloc())?;
-    let file = lgen(rt.alloc(), &source)?;
-    let object = read_object(rt.alloc(), file.as_slice())?;
+    let file = stored(rt.alloc(), &source)?;
+    let object = read(rt.alloc(), file.as_slice())?;
     assert_eq!(rt; object.symbols().len(), 0);
     assert!(rt; *object.module() == source);
     Ok(())
@@ -113,18 +156,18 @@ fn a_static_array_is_no_symbol(rt: HostRuntime) -> Result<(), Fail> {
 #[test]
 fn each_cut_is_found_at_its_end(rt: HostRuntime) -> Result<(), Fail> {
     let source = greeting(rt.alloc())?;
-    let mut file = lgen(rt.alloc(), &source)?;
+    let mut file = stored(rt.alloc(), &source)?;
     for end in 0..672 {
         let front = file.get(..end).unwrap_or(&[]);
         assert_eq!(rt;
-            fault_of(read_object(rt.alloc(), front)),
+            fault_of(read(rt.alloc(), front)),
             Some(ObjectFault::Truncated { offset: end as u64 }),
             "to {end}"
         );
     }
     file.push(0)?;
     assert_eq!(rt;
-        fault_of(read_object(rt.alloc(), file.as_slice())),
+        fault_of(read(rt.alloc(), file.as_slice())),
         Some(ObjectFault::Trailing { offset: 672 })
     );
     Ok(())
@@ -133,7 +176,7 @@ fn each_cut_is_found_at_its_end(rt: HostRuntime) -> Result<(), Fail> {
 #[test]
 fn each_fault_is_found_at_its_place(rt: HostRuntime) -> Result<(), Fail> {
     let source = greeting(rt.alloc())?;
-    let file = lgen(rt.alloc(), &source)?;
+    let file = stored(rt.alloc(), &source)?;
     let rows: [(usize, u8, ObjectFault); 11] = [
         (0, 0, ObjectFault::NotElf { offset: 0 }),
         (4, 1, ObjectFault::WrongClass { offset: 4 }),
@@ -158,13 +201,13 @@ fn each_fault_is_found_at_its_place(rt: HostRuntime) -> Result<(), Fail> {
     for (place, value, fault) in rows {
         let changed = with_byte(rt.alloc(), file.as_slice(), place, value)?;
         assert_eq!(rt;
-            fault_of(read_object(rt.alloc(), changed.as_slice())),
+            fault_of(read(rt.alloc(), changed.as_slice())),
             Some(fault),
             "byte {place}"
         );
     }
     let longer = with_byte(rt.alloc(), file.as_slice(), 104, 0xf1)?;
-    match read_object(rt.alloc(), longer.as_slice()) {
+    match read(rt.alloc(), longer.as_slice()) {
         Err(ObjectError::Fault(ObjectFault::SummaryDiffers {
             function,
             stored,
@@ -182,11 +225,11 @@ fn each_fault_is_found_at_its_place(rt: HostRuntime) -> Result<(), Fail> {
 #[test]
 fn each_changed_byte_is_refused_or_written_again(rt: HostRuntime) -> Result<(), Fail> {
     let source = greeting(rt.alloc())?;
-    let file = lgen(rt.alloc(), &source)?;
+    let file = stored(rt.alloc(), &source)?;
     for place in 0..672 {
         let byte = file.get(place).copied().unwrap_or(0);
         let changed = with_byte(rt.alloc(), file.as_slice(), place, byte ^ 0xff)?;
-        if let Ok(object) = read_object(rt.alloc(), changed.as_slice()) {
+        if let Ok(object) = read(rt.alloc(), changed.as_slice()) {
             let again = lgen(rt.alloc(), object.module())?;
             assert_eq!(rt; again.as_slice(), changed.as_slice(), "byte {place}");
         }

@@ -64,7 +64,7 @@ fn with_body(
     function: &Function,
     body: List<Statement>,
 ) -> Result<Function, NoMemory>
-    ensures { IfOk result (λ f. f ≡ with_body function.now body.entry) }
+    ensures { IfOk result (λ f. f ≡ with_body function.now body) }
 {
     Ok(Function {
         name: function.name.copy()?,
@@ -122,7 +122,7 @@ fn with_bodies(
     declared: Module,
     mut bodies: Vec<StoredBody>,
 ) -> Result<Module, NoMemory>
-    ensures { IfOk result (λ m. m ≡ with_bodies declared.entry bodies.entry.items) }
+    ensures { IfOk result (λ m. m ≡ with_bodies declared bodies.entry.items) }
 {
     let Module {
         structs,

@@ -76,6 +76,18 @@ fn all_summaries(
     Ok(summaries)
 }
 
+fn declared_summaries(
+    alloc: Global,
+    bytes: &[u8],
+    declared: &Module,
+) -> Result<List<Summary>, StreamError>
+    requires { HasBounds declared.now }
+    ensures { GivesAll result (read_summaries declared.now bytes.now) }
+{
+    let bounds = bounds_in(alloc, declared)?;
+    all_summaries(alloc, bytes, bounds.as_slice())
+}
+
 /// The summaries that the bytes spell, all of the bytes: one for each function of the declared module that has a body, in
 /// order, and with numbers that the module has.
 pub fn decode_summaries(
@@ -95,6 +107,5 @@ pub fn decode_summaries(
     ensures exact { GivesAll result (read_summaries declared.now bytes.now) }
     ensures within { IsWithin (length bytes.now) result }
 {
-    let bounds = bounds_in(alloc, declared)?;
-    all_summaries(alloc, bytes, bounds.as_slice())
+    declared_summaries(alloc, bytes, declared)
 }

@@ -1,6 +1,7 @@
 //! The symbols of a module as a stream: their count, and of each whether it is a function, its linkage and its name.
 ghost use Rattle.std.specs.Prelude.{◌≡◌, ◌++◌, length, map, List, IfOk, OnOk, Ok};
 ghost use Rattle.module_stream.specs.Readers.{Gives, GivesAll, IsWithin};
+ghost use Rattle.elf_container.specs.Reading.{named};
 ghost use Rattle.lto_object.specs.declared.symbols.StoredSymbol.{StoredSymbol};
 ghost use Rattle.lto_object.specs.SymbolStream.{stored_of, symbols_bytes, FitSymbols, symbol_name_at, read_symbols};
 
@@ -40,6 +41,13 @@ pub fn encode_symbols(alloc: Global, symbols: &[Symbol]) -> Result<Vec<u8>, NoMe
     Ok(out)
 }
 
+// The name that the bytes are.
+fn named(alloc: Global, bytes: &[u8]) -> Result<Option<Name>, NoMemory>
+    ensures { IfOk result (λ found. found ≡ named bytes.now) }
+{
+    Name::read(alloc, bytes)
+}
+
 // A name of 1 to 300 printable bytes.
 #[tactic(auto, unfolding(crate::specs::SymbolStream::symbol_name_at))]
 fn symbol_name(alloc: Global, cursor: &mut ByteCursor) -> Result<Name, StreamError>
@@ -47,9 +55,9 @@ fn symbol_name(alloc: Global, cursor: &mut ByteCursor) -> Result<Name, StreamErr
 {
     let offset = cursor.offset();
     let bytes = text(cursor)?;
-    match Name::read(alloc, bytes)? {
-        Some(name) => Ok(name),
+    match named(alloc, bytes)? {
         None => Err(StreamError::BadStream { offset }),
+        Some(name) => Ok(name),
     }
 }
 

@@ -22,9 +22,12 @@ fn true_summaries(alloc: Global, source: &Module) -> Result<Vec<Summary>, NoMemo
 {
     let mut summaries = Vec::new(alloc);
     for place in 0..source.functions.len() {
-        if is_defined(source.functions.get(place)) {
-            summaries.push(summarise(alloc, source, place as u32)?)?;
+        let function = source.functions.get(place);
+        if !is_defined(function) {
+            continue;
         }
+        let summary = summarise(alloc, source, place as u32)?;
+        summaries.push(summary)?;
     }
     Ok(summaries)
 }

@@ -20,7 +20,9 @@ pub enum Command<'a> {
         out: &'a str,
     },
     /// Prints the module of `object`.
-    Show { object: &'a str },
+    Show {
+        object: &'a str,
+    },
     /// Runs `image` for at most `steps` steps with the bytes of `input`, and writes its output to `out`.
     Run {
         image: &'a str,

@@ -170,7 +170,8 @@ statement_fits m f (Exit a) checked k p v l g o = operand_fits m f a k p.0 v
 
 pub body_fits : (m : Module) (f : Function) → IsChecked m → Facts m f → FitsBody (bounds_of m f) f.body
 body_fits m f checked k =
-    let stands = labels m f k in
-    (omega (arith, few_in_body m f k),
-    all-from_places (Fits (bounds_of m f)) f.body
-    (λ i s here. statement_fits m f s checked k (k.passes i s here) (all_at HasValues f.body k.stated.values i s here) (stands.stands i s here) (stands.goes i s here) (few_operands m f i s k here)))
+    let stands = labels m f k in (
+      omega (arith, few_in_body m f k),
+      all-from_places (Fits (bounds_of m f)) f.body
+          (λ i s here. statement_fits m f s checked k (k.passes i s here) (all_at HasValues f.body k.stated.values i s here) (stands.stands i s here) (stands.goes i s here) (few_operands m f i s k here)),
+    )

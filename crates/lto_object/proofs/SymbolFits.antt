@@ -50,9 +50,10 @@ few_symbols m checked =
     omega (arith, length-append (array_symbols (named_arrays m.functions) m.arrays) (function_symbols (named_functions m.functions) m.functions), (arrays_named m checked).1, (functions_named m checked).1)
 
 pub symbols_fit : (m : Module) → IsChecked m → FitSymbols (map stored_of (symbols_of m))
-symbols_fit m checked =
-    (omega (arith, length-map (symbols_of m) stored_of, few_symbols m checked, checked.stated.items),
-    stored_named (symbols_of m) (All-append Named (array_symbols (named_arrays m.functions) m.arrays) (function_symbols (named_functions m.functions) m.functions) (arrays_named m checked).0 (functions_named m checked).0))
+symbols_fit m checked = (
+  omega (arith, length-map (symbols_of m) stored_of, few_symbols m checked, checked.stated.items),
+  stored_named (symbols_of m) (All-append Named (array_symbols (named_arrays m.functions) m.arrays) (function_symbols (named_functions m.functions) m.functions) (arrays_named m checked).0 (functions_named m checked).0),
+)
 
 -- ---- the file
 

@@ -15,10 +15,7 @@ pub fn is_defined(function: &Function) -> bool
 }
 
 /// The type of each component of the variables.
-fn component_types(
-    alloc: Global,
-    variables: &[Variable],
-) -> Result<List<ScalarType>, NoMemory>
+fn component_types(alloc: Global, variables: &[Variable]) -> Result<List<ScalarType>, NoMemory>
     ensures { IfOk result (λ types. types ≡ component_types variables.now) }
 {
     let mut types = Vec::new(alloc);

@@ -11,34 +11,54 @@ use thiserror::Error;
 pub enum ObjectFault {
     /// The first four bytes are not those of ELF.
     #[error("NotElf {offset}")]
-    NotElf { offset: u64 },
+    NotElf {
+        offset: u64,
+    },
     /// No file of 64 bits with the low byte first, in the current version.
     #[error("WrongClass {offset}")]
-    WrongClass { offset: u64 },
+    WrongClass {
+        offset: u64,
+    },
     /// No file to be linked for RISC-V, in the current version.
     #[error("WrongMachine {offset}")]
-    WrongMachine { offset: u64 },
+    WrongMachine {
+        offset: u64,
+    },
     /// The file ends before its header, its section table or a section does.
     #[error("Truncated {offset}")]
-    Truncated { offset: u64 },
+    Truncated {
+        offset: u64,
+    },
     /// One of the five sections is absent.
     #[error("MissingSection {offset}")]
-    MissingSection { offset: u64 },
+    MissingSection {
+        offset: u64,
+    },
     /// A section has the name of an earlier one.
     #[error("DoubleSection {offset}")]
-    DoubleSection { offset: u64 },
+    DoubleSection {
+        offset: u64,
+    },
     /// A section's bytes are compressed.
     #[error("Compressed {offset}")]
-    Compressed { offset: u64 },
+    Compressed {
+        offset: u64,
+    },
     /// The format's version is not the one that is read.
     #[error("BadVersion {offset}")]
-    BadVersion { offset: u64 },
+    BadVersion {
+        offset: u64,
+    },
     /// A field of a stream is bad.
     #[error("BadStream {offset}")]
-    BadStream { offset: u64 },
+    BadStream {
+        offset: u64,
+    },
     /// Bytes follow the section table.
     #[error("Trailing {offset}")]
-    Trailing { offset: u64 },
+    Trailing {
+        offset: u64,
+    },
     /// The checks find a fault in the module.
     #[error("{0:?}")]
     TypeFault(TypeFault),
@@ -51,10 +71,14 @@ pub enum ObjectFault {
     },
     /// The symbols that are stored are not those of the module, from this place on.
     #[error("SymbolsDiffer {place}")]
-    SymbolsDiffer { place: u32 },
+    SymbolsDiffer {
+        place: u32,
+    },
     /// The file is not laid out as its sections are, or a section is not the form's.
     #[error("BadLayout {offset}")]
-    BadLayout { offset: u64 },
+    BadLayout {
+        offset: u64,
+    },
 }
 
 /// Why an object is refused.

@@ -12,7 +12,6 @@ mod checks;
 mod fault;
 mod form;
 mod jump_codes;
-
 mod listing;
 mod object;
 mod reading;
@@ -26,12 +25,12 @@ mod writing;
 
 pub use bodies::{StoredBody, decode_bodies, encode_bodies};
 pub use fault::{ObjectError, ObjectFault};
-pub use writing::lgen;
 pub use object::Object;
 pub use reading::read_object;
 pub use summaries::{decode_summaries, encode_summaries};
 pub use symbol::Symbol;
 pub use symbols::{StoredSymbol, decode_symbols, encode_symbols};
+pub use writing::lgen;
 
 #[cfg(test)]
 mod object_tests;

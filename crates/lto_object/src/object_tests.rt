@@ -129,7 +129,11 @@ fn a_small_module_has_its_object(rt: HostRuntime) -> Result<(), Fail> {
         (112, b"\x01\x01\x01\x04main"),
     ];
     for (offset, bytes) in rows {
-        assert_eq!(rt; file.get(offset..offset + bytes.len()), Some(bytes), "at {offset}");
+        assert_eq!(rt;
+            file.get(offset..offset + bytes.len()),
+            Some(bytes),
+            "at {offset}"
+        );
     }
     let object = read(rt.alloc(), file.as_slice())?;
     assert!(rt; *object.module() == source);
@@ -208,11 +212,15 @@ fn each_fault_is_found_at_its_place(rt: HostRuntime) -> Result<(), Fail> {
     }
     let longer = with_byte(rt.alloc(), file.as_slice(), 104, 0xf1)?;
     match read(rt.alloc(), longer.as_slice()) {
-        Err(ObjectError::Fault(ObjectFault::SummaryDiffers {
-            function,
-            stored,
-            found,
-        })) => {
+        Err(
+            ObjectError::Fault(
+                ObjectFault::SummaryDiffers {
+                    function,
+                    stored,
+                    found,
+                },
+            ),
+        ) => {
             assert_eq!(rt; function, 0);
             assert_eq!(rt; stored.code_bound, 241);
             assert_eq!(rt; found.code_bound, 240);

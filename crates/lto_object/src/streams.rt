@@ -194,11 +194,7 @@ fn bodies<'a>(
     }
 }
 
-fn summaries(
-    alloc: Global,
-    view: &RelView,
-    declared: &Module,
-) -> Result<List<Summary>, ObjectError>
+fn summaries(alloc: Global, view: &RelView, declared: &Module) -> Result<List<Summary>, ObjectError>
     requires form { IsForm view.now }
     requires size { size_of view.now ≤ 2 ^ 32 - 2 }
     requires bounds { HasBounds declared.now }

@@ -31,8 +31,3 @@ pub use summaries::{decode_summaries, encode_summaries};
 pub use symbol::Symbol;
 pub use symbols::{StoredSymbol, decode_symbols, encode_symbols};
 pub use writing::lgen;
-
-#[cfg(test)]
-mod object_tests;
-#[cfg(test)]
-mod stream_tests;

@@ -9,6 +9,3 @@ mod members;
 mod steps;
 
 pub use members::version_body;
-
-#[cfg(test)]
-mod tests;

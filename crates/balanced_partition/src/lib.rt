@@ -18,6 +18,3 @@ mod versions;
 pub use cutting::cut;
 pub use gimple_ir::NoMemory;
 pub use range::Range;
-
-#[cfg(test)]
-mod tests;

@@ -10,6 +10,3 @@ mod marking;
 
 pub use keeping::kept_arrays;
 pub use marking::live;
-
-#[cfg(test)]
-mod tests;

@@ -2,4 +2,3 @@ pub mod JumpFunctions
 pub mod Summaries
 pub mod Tables
 pub mod Ready
-pub mod Rows

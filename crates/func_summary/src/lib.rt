@@ -17,6 +17,3 @@ mod summaries;
 pub use assignments::{Assigned, Assignment};
 pub use places::Place;
 pub use summaries::summarise;
-
-#[cfg(test)]
-mod tests;

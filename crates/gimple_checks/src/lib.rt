@@ -13,8 +13,3 @@ mod types;
 
 pub use bound::code_bound;
 pub use check::{ModuleError, check_module};
-
-#[cfg(test)]
-mod item_tests;
-#[cfg(test)]
-mod tests;

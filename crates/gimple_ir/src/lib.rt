@@ -37,8 +37,3 @@ pub use types::{
 pub use unit::{ArrayUse, CallUse, Member};
 pub use values::{convert, eval_binary, eval_unary};
 pub use versioned::{Pair, Step, VersionedFunction};
-
-#[cfg(test)]
-mod rows;
-#[cfg(test)]
-mod tests;

@@ -23,6 +23,3 @@ pub use gimple_ir::NoMemory;
 pub use interp::Interp;
 pub use laws::run_laws;
 pub use outcome::Outcome;
-
-#[cfg(test)]
-mod tests;

@@ -1,5 +1,5 @@
 //! One module for each kind of fault, the next best one that passes, and two faults at once.
-use crate::{ModuleError, check_module, code_bound};
+use gimple_checks::{ModuleError, check_module, code_bound};
 use gimple_ir::*;
 use std::alloc::Global;
 use std::test::Fail;

@@ -2,9 +2,9 @@
 ghost use Rattle.std.specs.Prelude.{◌≡◌, All, IfOk};
 ghost use Rattle.gimple_ir.specs.Programs.{HasValues, IsArgument, IsOperand};
 ghost use Rattle.gimple_ir.specs.declared.types.ScalarType.TheVariants.{Int};
-ghost use Rattle.func_summary.specs.Rows.{scalar_named, struct_named, row_struct, array_named, declared_as, defined_as, row_variables, row_functions, row_module};
+ghost use Rattle.gimple_rows.specs.SummaryRows.{scalar_named, struct_named, row_struct, array_named, declared_as, defined_as, row_variables, row_functions, row_module};
 
-use crate::summarise;
+use func_summary::summarise;
 use gimple_checks::{ModuleError, check_module};
 use gimple_ir::*;
 use std::alloc::Global;

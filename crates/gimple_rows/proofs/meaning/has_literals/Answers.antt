@@ -2,7 +2,7 @@ use Rattle.std.proofs.Common.{refl, subst, sym, take}
 use Rattle.std.proofs.lemmas.List.{take_all}
 use Rattle.std.proofs.lemmas.List.Elements.{All-more, All-same}
 use Rattle.gimple_ir.specs.Programs.{HasValues}
-use Rattle.gimple_meaning.proofs.tests.has_literals.Goals as goal
+use Rattle.gimple_rows.proofs.meaning.has_literals.Goals as goal
 
 pub loop-statement-preserved : goal.loop-statement-preserved
 loop-statement-preserved c =

@@ -3,7 +3,7 @@ ghost use Rattle.std.specs.Prelude.{◌<◌, ◌↔◌, All, IsTrue, length};
 ghost use Rattle.call_graph.specs.Live.{HasCallees};
 ghost use Rattle.call_graph.specs.Keeping.{HasArrays};
 
-use crate::{kept_arrays, live};
+use call_graph::{kept_arrays, live};
 use gimple_ir::*;
 use std::alloc::Global;
 use std::test::Fail;

@@ -4,8 +4,8 @@ ghost use Rattle.gimple_ir.specs.Programs.{HasValues, IsArgument, IsElement, IsO
 ghost use Rattle.gimple_ir.specs.Values.{IsValue};
 ghost use Rattle.gimple_meaning.specs.Held.{HasInitial, HasLiterals};
 
-use crate::{Interp, Outcome, run_laws};
 use gimple_ir::*;
+use gimple_meaning::{Interp, Outcome, run_laws};
 use std::alloc::Global;
 use std::test::Fail;
 

@@ -3,7 +3,7 @@ use Rattle.std.proofs.lemmas.List.{take_all}
 use Rattle.std.proofs.lemmas.List.Elements.{All-more, All-same}
 use Rattle.gimple_ir.specs.Programs.{HasValues}
 use Rattle.gimple_meaning.specs.Held.{HasLiterals}
-use Rattle.gimple_meaning.proofs.tests.have_literals.Goals as goal
+use Rattle.gimple_rows.proofs.meaning.have_literals.Goals as goal
 
 pub loop-function-preserved : goal.loop-function-preserved
 loop-function-preserved c =

@@ -1,6 +1,6 @@
 //! Every operator at every type, at the edges of its range. The last column was computed by arithmetic on whole numbers
 //! without bound, outside this crate.
-use crate::types::{BinaryOp, ScalarType};
+use gimple_ir::{BinaryOp, ScalarType};
 
 /// An operator, the type of both operands, the operands, and the number that the operation gives.
 pub struct Row(

@@ -2,8 +2,8 @@
 ghost use Rattle.std.specs.Prelude.{IfSome};
 ghost use Rattle.gimple_ir.specs.Values.{IsValue};
 
-use crate::rows::{ROWS, Row};
-use crate::*;
+use crate::operators::{ROWS, Row};
+use gimple_ir::*;
 use std::test::Fail;
 
 /// What the operation of the row gives, or None where an operand is out of its type's range.

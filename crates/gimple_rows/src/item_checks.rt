@@ -1,7 +1,7 @@
 //! Each fault of an item and the next best item that passes, two faults at once for neighbouring kinds, and each limit at its
 //! edge and one past it.
-use crate::tests::{X, assign, call, int, name, unary, variable};
-use crate::{ModuleError, check_module};
+use crate::checks::{X, assign, call, int, name, unary, variable};
+use gimple_checks::{ModuleError, check_module};
 use gimple_ir::*;
 use std::alloc::Global;
 use std::test::Fail;

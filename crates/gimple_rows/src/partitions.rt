@@ -2,7 +2,7 @@
 
 ghost use Rattle.std.specs.Prelude.{◌≤◌};
 
-use crate::{Range, cut};
+use balanced_partition::{Range, cut};
 use std::test::Fail;
 
 #[test]

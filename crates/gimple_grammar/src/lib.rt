@@ -16,6 +16,3 @@ pub use syntax::{
     Item, ItemLine, Line, Literal, Operand, Parameters, Place, Right, StructText, Tail, Type,
 };
 pub use text::{SyntaxError, SyntaxFault, read_text};
-
-#[cfg(test)]
-mod tests;

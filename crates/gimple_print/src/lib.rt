@@ -13,6 +13,3 @@ mod words;
 
 pub use canonical::print_module;
 pub use gimple_ir::NoMemory;
-
-#[cfg(test)]
-mod tests;

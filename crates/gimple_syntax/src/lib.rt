@@ -23,6 +23,3 @@ pub use gimple_ir::NoMemory;
 pub use laws::stand_ins_are_ill_typed;
 pub use read::read_module;
 pub use text::{TextError, TextFault, TextKind};
-
-#[cfg(test)]
-mod tests;

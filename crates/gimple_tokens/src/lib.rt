@@ -18,6 +18,3 @@ pub use lexer::{Lexed, lex};
 pub use numbers::NumberPlace;
 pub use reader::Reader;
 pub use token::{Keyword, Mark, Suffix, TextKind, Token};
-
-#[cfg(test)]
-mod tests;

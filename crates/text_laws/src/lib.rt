@@ -9,6 +9,3 @@ mod printed;
 
 pub use checked::read_is_checked;
 pub use printed::printed_is_read;
-
-#[cfg(test)]
-mod tests;

@@ -13,6 +13,3 @@ mod places;
 
 pub use gimple_ir::NoMemory;
 pub use modules::generate;
-
-#[cfg(test)]
-mod tests;

@@ -1,7 +1,7 @@
 // Texts against the rules of the language: every form once, and each kind of fault with its line.
 ghost use Rattle.std.specs.Prelude.{◌<◌, length};
 
-use super::*;
+use gimple_grammar::{SyntaxError, read_text};
 use gimple_tokens::TextKind;
 use std::alloc::Global;
 use std::test::Fail;

@@ -1,6 +1,8 @@
 // Tokens of a few texts, against the rules of the language.
-use super::{Failure, Keyword, Lexed, Mark, NumberPlace, Reader, Suffix, TextKind, Token, lex};
 use gimple_ir::{BinaryOp, ElementType};
+use gimple_tokens::{
+    Failure, Keyword, Lexed, Mark, NumberPlace, Reader, Suffix, TextKind, Token, lex,
+};
 use std::test::Fail;
 
 // The first token of a text, as a letter for its kind and what it holds.

@@ -1,33 +1,29 @@
-//! Texts against the rules of names and the checks: which fault is a module's first, and what each statement becomes.
-use crate::modules::module_of;
-use gimple_checks::{ModuleError, check_module};
-use gimple_grammar::read_text;
+//! Texts against the rules of names and the checks: which fault is a text's first, and what each statement becomes.
 use gimple_ir::*;
+use gimple_syntax::{TextError, TextFault, TextKind, read_module};
 use std::alloc::Global;
 use std::test::Fail;
 
-fn read(alloc: Global, text: &str) -> Result<Module, Fail> {
+fn read(alloc: Global, text: &str) -> Result<Module, TextError> {
     if text.len() >= 10_000 {
-        return Err(Fail::from("a long text"));
+        return Err(TextError::NoMemory);
     }
-    let items = read_text(alloc, text.as_bytes())?;
-    Ok(module_of(alloc, items.as_slice())?)
+    read_module(alloc, text.as_bytes())
 }
 
-/// The letter of the kind of the text's fault, its item and its statement; a space where it has none.
-fn fault_of(alloc: Global, text: &str) -> Result<(char, u32, u32), Fail> {
-    let found = read(alloc, text)?;
-    if found.structs.len() > 9 || found.arrays.len() > 9 || found.functions.len() > 9 {
-        return Err(Fail::from("many items"));
-    }
-    match check_module(alloc, &found) {
-        Ok(()) => Ok((' ', 0, 0)),
-        Err(ModuleError::Fault(fault)) => Ok((letter(fault.kind), fault.item, fault.statement)),
-        Err(ModuleError::NoMemory) => Err(Fail::from("no memory")),
+/// The letter of the kind of the text's first fault, and its line; a space and 0 where it has none.
+fn fault_of(alloc: Global, text: &str) -> Result<(char, u32), Fail> {
+    match read(alloc, text) {
+        Ok(_) => Ok((' ', 0)),
+        Err(TextError::Fault(TextFault { line, kind })) => Ok((letter(kind), line)),
+        Err(TextError::NoMemory) => Err(Fail::from("no memory")),
     }
 }
 
-fn letter(kind: TypeKind) -> char {
+fn letter(kind: TextKind) -> char {
+    let TextKind::Check(kind) = kind else {
+        return 's';
+    };
     match kind {
         TypeKind::DoubleName => 'd',
         TypeKind::UnknownName => 'u',
@@ -41,142 +37,121 @@ fn letter(kind: TypeKind) -> char {
     }
 }
 
+/// Each item, and each statement that has a fault, stands in a line of its own.
 #[test]
 fn faults_of_items(rt: HostRuntime) -> Result<(), Fail> {
     let rows = [
-        ("", ' ', 0, 0),
-        ("void f () { int x; x = 1; }", 'o', 0, 0),
-        ("void f () { return; }", ' ', 0, 0),
-        ("void f () { }", 'm', 0, 0),
+        ("", ' ', 0),
+        ("void f () { int x; x = 1; }", 'o', 1),
+        ("void f () { return; }", ' ', 0),
+        ("void f () { }", 'm', 1),
         (
             "struct x { int x; }; void x (int x) { struct x y; x: y.x = x; goto x; }",
             ' ',
-            0,
             0,
         ),
         (
             "struct A { int A; }; int A[1]; void f () { A[0] = 1; return; }",
             ' ',
             0,
-            0,
         ),
-        ("int f[1]; void f () { return; }", 'd', 1, 0),
-        ("struct p { int x; }; struct p { int y; };", 'd', 1, 0),
-        ("struct p { int x; int x; };", 'd', 0, 0),
+        ("int f[1];\nvoid f () { return; }", 'd', 2),
+        ("struct p { int x; };\nstruct p { int y; };", 'd', 2),
+        ("struct p { int x; int x; };", 'd', 1),
         (
             "struct p { int a; int b; int c; int d; int e; int f; int g; int h; };",
             ' ',
-            0,
             0,
         ),
         (
             "struct p { int a; int b; int c; int d; int e; int f; int g; int h; int i; };",
             'm',
-            0,
-            0,
-        ),
-        ("int A[2] = {1, 2, 0};", ' ', 0, 0),
-        ("int A[2] = {1, 2, 3};", 'm', 0, 0),
-        ("void __builtin_foo () { return; }", 'u', 0, 0),
-        ("void f (struct q s) { return; }", 'u', 0, 0),
-        (
-            "void f () { g (); return; } void g () { return; }",
-            ' ',
-            0,
-            0,
-        ),
-        (
-            "void f () { g (); return; } void g () { return; } void g (int a) { return; }",
-            'd',
-            2,
-            0,
-        ),
-        (
-            "void f () { g (); return; } void g (int a) { return; } void g () { return; }",
-            'c',
-            0,
-            0,
-        ),
-        (
-            "extern void g (int a); void f () { g (); return; }",
-            'c',
             1,
-            0,
+        ),
+        ("int A[2] = {1, 2, 0};", ' ', 0),
+        ("int A[2] = {1, 2, 3};", 'm', 1),
+        ("void __builtin_foo () { return; }", 'u', 1),
+        ("void f (struct q s) { return; }", 'u', 1),
+        ("void f () { g (); return; } void g () { return; }", ' ', 0),
+        (
+            "void f () { g (); return; }\nvoid g () { return; }\nvoid g (int a) { return; }",
+            'd',
+            3,
+        ),
+        (
+            "void f () {\ng ();\nreturn; }\nvoid g (int a) { return; }\nvoid g () { return; }",
+            'c',
+            2,
+        ),
+        (
+            "extern void g (int a);\nvoid f () {\ng ();\nreturn; }",
+            'c',
+            3,
         ),
     ];
-    for (text, kind, item, statement) in rows {
-        assert_eq!(rt;
-            fault_of(rt.alloc(), text)?,
-            (kind, item, statement),
-            "{text}"
-        );
+    for (text, kind, line) in rows {
+        assert_eq!(rt; fault_of(rt.alloc(), text)?, (kind, line), "{text}");
     }
     Ok(())
 }
 
-/// Each stands in a function with a struct variable s and an `int` x, beside an array A and a function g.
+/// Each stands in a line of its own, in a function with a struct variable s and an `int` x, beside an array A and a function g.
 #[test]
 fn faults_of_statements(rt: HostRuntime) -> Result<(), Fail> {
     let rows = [
-        ("s.x = 1; L: return 1;", ' '),
-        (
-            "__builtin_putchar (1); __builtin_exit (0); L: return 1;",
-            ' ',
-        ),
-        (
-            "__builtin_getchar (); x = __builtin_getchar (); L: return 1;",
-            ' ',
-        ),
-        ("__builtin_foo (); L: return 1;", 'u'),
-        ("__builtin_putchar (); L: return 1;", 'u'),
-        ("x = __builtin_putchar (1); L: return 1;", 'u'),
-        ("__builtin_getchar (1); L: return 1;", 'u'),
-        ("switch (s) <default: L>; L: return 1;", 't'),
-        ("return s; L: return 1;", 't'),
-        ("x = (int) s; L: return 1;", 't'),
-        ("x = (long int) x; L: return 1;", 't'),
-        ("s = g (); L: return 1;", 't'),
-        ("s = g (1); L: return 1;", 'c'),
-        ("s = h (); L: return 1;", 'u'),
-        ("s = 1; L: return 1;", 't'),
-        ("x = s; L: return 1;", 't'),
-        ("s = A[0]; L: return 1;", 't'),
-        ("x = A[s]; L: return 1;", 't'),
-        ("A[s] = 1; L: return 1;", 't'),
-        ("A[0] = s; L: return 1;", 't'),
-        ("if (s < 1) goto L; else goto L; L: return 1;", 't'),
-        ("if (x + 1) goto L; else goto L; L: return 1;", 't'),
-        ("x = s + 1; L: return 1;", 't'),
-        ("x = s + y; L: return 1;", 'u'),
-        ("x = -s; L: return 1;", 't'),
-        ("x = ~s; L: return 1;", 't'),
-        ("__builtin_putchar (s); L: return 1;", 't'),
-        ("__builtin_exit (s); L: return 1;", 't'),
-        ("s = __builtin_getchar (); L: return 1;", 't'),
-        ("g (s); L: return 1;", 'c'),
-        ("x.x = 1; L: return 1;", 'u'),
-        ("s.y = 1; L: return 1;", 'u'),
-        ("x = A; L: return 1;", 'u'),
-        ("x = g; L: return 1;", 'u'),
-        ("A (); L: return 1;", 'u'),
-        ("g[0] = 1; L: return 1;", 'u'),
-        ("x = - -5; L: return 1;", 'n'),
-        ("x = -5; L: return 1;", ' '),
-        ("x = 1l; L: return 1;", 't'),
-        ("goto M; L: return 1;", 'b'),
-        ("L: goto L; L: return 1;", 'b'),
-        (
-            "switch (x) <default: L, case 2: L, case 1: L>; L: return 1;",
-            'a',
-        ),
+        ("s.x = 1;", ' '),
+        ("__builtin_putchar (1); __builtin_exit (0);", ' '),
+        ("__builtin_getchar (); x = __builtin_getchar ();", ' '),
+        ("__builtin_foo ();", 'u'),
+        ("__builtin_putchar ();", 'u'),
+        ("x = __builtin_putchar (1);", 'u'),
+        ("__builtin_getchar (1);", 'u'),
+        ("switch (s) <default: L>;", 't'),
+        ("return s;", 't'),
+        ("x = (int) s;", 't'),
+        ("x = (long int) x;", 't'),
+        ("s = g ();", 't'),
+        ("s = g (1);", 'c'),
+        ("s = h ();", 'u'),
+        ("s = 1;", 't'),
+        ("x = s;", 't'),
+        ("s = A[0];", 't'),
+        ("x = A[s];", 't'),
+        ("A[s] = 1;", 't'),
+        ("A[0] = s;", 't'),
+        ("if (s < 1) goto L; else goto L;", 't'),
+        ("if (x + 1) goto L; else goto L;", 't'),
+        ("x = s + 1;", 't'),
+        ("x = s + y;", 'u'),
+        ("x = -s;", 't'),
+        ("x = ~s;", 't'),
+        ("__builtin_putchar (s);", 't'),
+        ("__builtin_exit (s);", 't'),
+        ("s = __builtin_getchar ();", 't'),
+        ("g (s);", 'c'),
+        ("x.x = 1;", 'u'),
+        ("s.y = 1;", 'u'),
+        ("x = A;", 'u'),
+        ("x = g;", 'u'),
+        ("A ();", 'u'),
+        ("g[0] = 1;", 'u'),
+        ("x = - -5;", 'n'),
+        ("x = -5;", ' '),
+        ("x = 1l;", 't'),
+        ("goto M;", 'b'),
+        ("L:\ngoto L;", 'b'),
+        ("switch (x) <default: L, case 2: L, case 1: L>;", 'a'),
     ];
     for (body, kind) in rows {
         let text = format!(in rt.alloc();
-            "struct p {{ int x; }}; int g () {{ return 1; }} int A[1]; int f () {{ struct p s; int x; {body} }}"
+            "struct p {{ int x; }}; int g () {{ return 1; }} int A[1]; int f () {{ struct p s; int x;\n{body}\nL: return 1; }}"
         )?;
-        let found = fault_of(rt.alloc(), text.as_str())?;
-        let item = if kind == ' ' { 0 } else { 3 };
-        assert_eq!(rt; found, (kind, item, 0), "{body}");
+        let line = if kind == ' ' { 0 } else { 2 };
+        assert_eq!(rt;
+            fault_of(rt.alloc(), text.as_str())?,
+            (kind, line),
+            "{body}"
+        );
     }
     Ok(())
 }
@@ -184,10 +159,11 @@ fn faults_of_statements(rt: HostRuntime) -> Result<(), Fail> {
 const EVERY_FORM: &str = "struct p { int x; unsigned int y; };
 int A[2] = {1, 0};
 unsigned char B[1];
-extern int g (int a, struct p s);
+extern int g (long int a, struct p s);
 void f (struct p s) {
   struct p t;
   int x;
+  long int y;
 L:
   ;
   goto M;
@@ -203,7 +179,7 @@ M:
   x = B[s.y];
   A[0] = x;
   s = t;
-  g (x, s);
+  g (y, s);
   x = g (1l, t);
   x = __builtin_getchar ();
   __builtin_getchar ();
@@ -292,7 +268,7 @@ fn second_half(alloc: Global) -> Result<Vec<Statement>, Fail> {
         Statement::Call {
             to: None,
             function: 0,
-            args: arguments(alloc, x, 0)?
+            args: arguments(alloc, Operand::Component(5), 0)?
         },
         Statement::Call {
             to: Some(4),
@@ -315,7 +291,7 @@ fn every_form(rt: HostRuntime) -> Result<(), Fail> {
     assert_eq!(rt; found.arrays.get(0).initial.as_slice(), [1].as_slice());
     assert_eq!(rt; found.functions.len(), 2);
     let f = found.functions.get(1);
-    assert_eq!(rt; f.variables.len(), 3);
+    assert_eq!(rt; f.variables.len(), 4);
     assert_eq!(rt; f.labels.len(), 2);
     assert_eq!(rt; f.body.len(), 21);
     let (first, second) = f.body.as_slice().split_at(8);

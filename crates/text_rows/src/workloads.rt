@@ -1,8 +1,8 @@
 //! Small modules as the rules spell them, and how many functions there are.
-use crate::{NoMemory, generate};
 use gimple_ir::{Arg, Args, BinaryOp, Linkage, Module, Operand, ScalarType, Statement, Value};
 use std::alloc::Global;
 use std::test::Fail;
+use workload_gen::{NoMemory, generate};
 
 /// A count, and of it the modules, the functions of module 0, and those that it only declares.
 const ROWS: [(u32, usize, usize, usize); 6] = [

@@ -1,6 +1,6 @@
 //! Modules of every form beside their text, as the language's rules write it.
-use crate::print_module;
 use gimple_ir::*;
+use gimple_print::print_module;
 use std::alloc::Global;
 use std::test::Fail;
 

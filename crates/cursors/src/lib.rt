@@ -17,6 +17,3 @@ pub use lines::TextCursor;
 
 /// Want of memory.
 pub use std::alloc::AllocError as NoMemory;
-
-#[cfg(test)]
-mod tests;

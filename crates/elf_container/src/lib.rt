@@ -33,8 +33,3 @@ pub use relocatable::{FormError, RelSymbol, Reloc, RelocObject, write_object};
 pub use sections::{OwnSection, RelView, Section};
 pub use stands::sections_stand_in_order;
 pub use writing::write_rel;
-
-#[cfg(test)]
-mod object_tests;
-#[cfg(test)]
-mod tests;

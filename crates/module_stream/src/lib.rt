@@ -33,6 +33,3 @@ pub use encode::{Encode, put_counted, put_text};
 pub use fault::StreamError;
 pub use fields::{byte, coded, number_below, place_below, text, typed_value, value};
 pub use operands::{component, put_typed_value};
-
-#[cfg(test)]
-mod tests;

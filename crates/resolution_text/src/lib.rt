@@ -13,6 +13,3 @@ pub use fault::{ResolutionError, ResolutionKind};
 pub use printing::{print_resolution, printed_text_is_read};
 pub use reading::read_resolution;
 pub use resolution::{Resolution, Resolved, ResolvedFile, Word};
-
-#[cfg(test)]
-mod tests;

@@ -10,6 +10,3 @@ mod parts;
 pub use fault::LineError;
 pub use lines::LineReader;
 pub use parts::{name, words};
-
-#[cfg(test)]
-mod tests;

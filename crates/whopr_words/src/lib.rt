@@ -10,6 +10,3 @@ mod job_file;
 pub use command::{Command, read_words};
 pub use fault::JobError;
 pub use job_file::{Job, Jobs, read_jobs};
-
-#[cfg(test)]
-mod job_tests;

@@ -1,5 +1,5 @@
 // Rows of numbers, fields and lines, from the definition of LEB128 and from other programs.
-use super::{
+use cursors::{
     ByteCursor, ReadError, TextCursor, decimal, put_decimal, put_le16, put_le32, put_le64, put_uleb,
 };
 use std::test::Fail;

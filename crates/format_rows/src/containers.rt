@@ -2,7 +2,7 @@
 ghost use Rattle.std.specs.Prelude.{◌≡◌, ◌≤◌, All, IfOk, length, bit_and};
 ghost use Rattle.elf_container.specs.Container.{IsPlain};
 
-use crate::{ElfError, ElfFault, ElfKind, OwnSection, RelView, read_rel, write_rel};
+use elf_container::{ElfError, ElfFault, ElfKind, OwnSection, RelView, read_rel, write_rel};
 use gimple_ir::{Bytes, List, Name, NoMemory};
 use std::alloc::Global;
 use std::test::Fail;

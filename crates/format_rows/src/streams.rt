@@ -1,7 +1,9 @@
 // Worked rows: the streams of small modules, and each case of a bad field at its offset.
-use crate::{BodyBounds, StreamError, decode_body, decode_decls, encode_body, encode_decls};
 use cursors::put_uleb;
 use gimple_ir::*;
+use module_stream::{
+    BodyBounds, StreamError, decode_body, decode_decls, encode_body, encode_decls,
+};
 use std::alloc::Global;
 use std::test::Fail;
 

@@ -1,6 +1,6 @@
 //! The lines and words of a short text.
-use crate::{LineError, LineReader, name, words};
 use std::test::Fail;
+use text_lines::{LineError, LineReader, name, words};
 
 #[test]
 fn lines_and_words(rt: HostRuntime) -> Result<(), Fail> {

@@ -3,7 +3,7 @@
 ghost use Rattle.std.specs.Prelude.{◌≤◌, IfOk};
 ghost use Rattle.elf_container.specs.Container.{IsPlain};
 
-use crate::{FormError, OwnSection, Reloc, read_object_form, write_object, write_rel};
+use elf_container::{FormError, OwnSection, Reloc, read_object_form, write_object, write_rel};
 use gimple_ir::{Bytes, List, Name, NoMemory};
 use std::alloc::Global;
 use std::test::Fail;

@@ -1,10 +1,10 @@
 //! Worked rows: a job file, and files with their first bad line.
 ghost use Rattle.std.specs.Prelude.{◌+◌, ◌<◌, ◌^◌, length};
 
-use crate::{JobError, read_jobs};
 use gimple_ir::Options;
 use std::alloc::Global;
 use std::test::Fail;
+use whopr_words::{JobError, read_jobs};
 
 const TWO: &[u8] =
     b"batch 2 cache 4\nlink a.img r.txt partitions 1 workers 1 growth 10 versions 4 objects 1\nh.o\nlink b.img r.txt partitions 1 workers 1 growth 10 versions 4 objects 1\nh.o\n";

@@ -1,10 +1,10 @@
 //! Worked rows: a text that is read and printed again, and texts with their first bad line.
 ghost use Rattle.std.specs.Prelude.{◌+◌, ◌<◌, ◌^◌, length};
 
-use crate::{
+use gimple_ir::NoMemory;
+use resolution_text::{
     ResolutionError, ResolutionKind, print_resolution, printed_text_is_read, read_resolution,
 };
-use gimple_ir::NoMemory;
 use std::alloc::Global;
 use std::test::Fail;
 

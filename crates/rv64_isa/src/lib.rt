@@ -7,8 +7,6 @@ pub mod encoding;
 pub mod fields;
 pub mod instr;
 pub mod opcode;
-#[cfg(test)]
-mod tests;
 
 pub use decoding::decode;
 pub use encoding::encode;

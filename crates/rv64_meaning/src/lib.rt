@@ -15,8 +15,6 @@ mod laws;
 mod loading;
 mod machine;
 mod memory;
-#[cfg(test)]
-mod tests;
 
 pub use event::{Event, MachineState};
 pub use fault::{ImageFault, LoadError};

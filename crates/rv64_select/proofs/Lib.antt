@@ -5,4 +5,3 @@ pub mod Fits
 pub mod Naming
 pub mod Parts
 pub mod Whole
-pub mod TestedFunction

@@ -17,8 +17,6 @@ pub mod references;
 pub mod selection;
 pub mod slots;
 pub mod steps;
-#[cfg(test)]
-mod tests;
 pub mod words;
 
 pub use item::{Item, Symbol};

@@ -1,6 +1,6 @@
 use Rattle.std.proofs.Common.{◌∙◌}
-use Rattle.rv64_select.proofs.TestedFunction.{is_versioned}
-use Rattle.rv64_select.proofs.tests.main_of.Goals as goal
+use Rattle.machine_rows.proofs.TestedFunction.{is_versioned}
+use Rattle.machine_rows.proofs.selection.main_of.Goals as goal
 
 pub returns : goal.returns
 returns c =

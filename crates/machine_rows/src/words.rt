@@ -1,6 +1,6 @@
 //! Words from outside: rows that GNU as 2.40 makes (`tools/compare-encodings --vectors`), and reserved words by the manual.
 
-use super::*;
+use rv64_isa::{Instr, decode, encode};
 use std::alloc::AllocError;
 
 // Each instruction as `Debug` prints it, and both limits of each kind of immediate.

@@ -3,11 +3,6 @@ ghost use Rattle.std.specs.Prelude.{◌≡◌, true, IfOk};
 ghost use Rattle.gimple_ir.specs.Statements.{is_literal};
 ghost use Rattle.rv64_select.specs.Versioned.{IsVersioned};
 
-use crate::code;
-use crate::constants::put_constant;
-use crate::item::Item;
-use crate::operations::{put_branch, put_conversion, put_operation, put_scaling, put_unary};
-use crate::slots::{put_load, put_store};
 use elf_container::{R_RISCV_CALL_PLT, Reloc};
 use gimple_ir::{
     BinaryOp, ElementType, List, Name, NoMemory, Operand, ScalarType, Step, UnaryOp, Value,
@@ -16,6 +11,10 @@ use gimple_ir::{
 use rv64_abi::{A0, T0};
 use rv64_frame::frame;
 use rv64_isa::decode;
+use rv64_select::constants::put_constant;
+use rv64_select::operations::{put_branch, put_conversion, put_operation, put_scaling, put_unary};
+use rv64_select::slots::{put_load, put_store};
+use rv64_select::{Item, code};
 use std::alloc::Global;
 use std::test::Fail;
 

@@ -2,7 +2,7 @@
 //! stubs whose words GNU as 2.40 makes (qemu 7.2 runs it to the same end), images with one fault each by the format's list, and a
 //! program that reads.
 
-use super::*;
+use rv64_meaning::{Event, LoadError, Machine, MachineState};
 use std::alloc::{AllocError, Global};
 use std::test::Fail;
 

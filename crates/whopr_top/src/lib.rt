@@ -14,6 +14,3 @@ mod running;
 mod top;
 
 pub use top::{FILE_BYTES, plain, whopr};
-
-#[cfg(test)]
-mod tests;

@@ -3,10 +3,10 @@
 ghost use Rattle.std.specs.Prelude.{OnOk, IsErrOf, None, Some, map};
 ghost use Rattle.outer_files.specs.Outside.{TookPiece, FailedPiece, LackedMemory};
 
-use super::{plain, whopr};
 use outer_files::{MemoryFiles, MemorySink, Sink, WriteFault};
 use std::alloc::{AllocError, Global};
 use std::test::Fail;
+use whopr_top::{plain, whopr};
 
 // The text of the first row, and its image's words from 0x10000 on: the start stub, and `main` at 0x10064.
 const TEXT: &str = "int main () { __builtin_putchar (72); __builtin_putchar (105); return 7; }";

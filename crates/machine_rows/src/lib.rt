@@ -3,6 +3,8 @@
 #![tactic(auto)]
 
 #[cfg(test)]
+mod instructions;
+#[cfg(test)]
 mod machines;
 #[cfg(test)]
 mod selection;

@@ -9,8 +9,6 @@ mod effect;
 mod event;
 mod fault;
 mod hart;
-#[cfg(test)]
-mod instruction_tests;
 mod laws;
 mod loading;
 mod machine;

@@ -1,8 +1,9 @@
 //! Each instruction on edge values, with results that qemu 7.2 gives and words that GNU as 2.40 makes (`tools/machine-vectors`),
-//! and each trap and environment call by the manual.
+//! and each trap and environment call by the manual. The word stands at 0x10020 of an image, behind words that load registers and
+//! before words that write what it left.
 
-use super::*;
-use crate::hart::Hart;
+use crate::machines::HEADER;
+use rv64_meaning::{Event, Machine, MachineState};
 use std::alloc::{AllocError, Global};
 use std::test::Fail;
 
@@ -166,26 +167,26 @@ const RESULTS: [(u32, u64, u64, u64); 102] = [
     (0xffff_f3b7, 0, 0, 0xffff_ffff_ffff_f000),
 ];
 
-// The word of a branch by 16 bytes on t0 and t1; t0 and t1; where it goes from 0x10000.
+// The word of a branch by 16 bytes on t0 and t1; t0 and t1; where it goes from 0x10020.
 const BRANCHES: [(u32, u64, u64, u64); 18] = [
-    (0x0062_8863, 5, 5, 0x10010), // beq
-    (0x0062_8863, ONES, 1, 0x10004), // beq
-    (0x0062_8863, 1, ONES, 0x10004), // beq
-    (0x0062_9863, 5, 5, 0x10004), // bne
-    (0x0062_9863, ONES, 1, 0x10010), // bne
-    (0x0062_9863, 1, ONES, 0x10010), // bne
-    (0x0062_c863, 5, 5, 0x10004), // blt
-    (0x0062_c863, ONES, 1, 0x10010), // blt
-    (0x0062_c863, 1, ONES, 0x10004), // blt
-    (0x0062_d863, 5, 5, 0x10010), // bge
-    (0x0062_d863, ONES, 1, 0x10004), // bge
-    (0x0062_d863, 1, ONES, 0x10010), // bge
-    (0x0062_e863, 5, 5, 0x10004), // bltu
-    (0x0062_e863, ONES, 1, 0x10004), // bltu
-    (0x0062_e863, 1, ONES, 0x10010), // bltu
-    (0x0062_f863, 5, 5, 0x10010), // bgeu
-    (0x0062_f863, ONES, 1, 0x10010), // bgeu
-    (0x0062_f863, 1, ONES, 0x10004), // bgeu
+    (0x0062_8863, 5, 5, 0x10030), // beq
+    (0x0062_8863, ONES, 1, 0x10024), // beq
+    (0x0062_8863, 1, ONES, 0x10024), // beq
+    (0x0062_9863, 5, 5, 0x10024), // bne
+    (0x0062_9863, ONES, 1, 0x10030), // bne
+    (0x0062_9863, 1, ONES, 0x10030), // bne
+    (0x0062_c863, 5, 5, 0x10024), // blt
+    (0x0062_c863, ONES, 1, 0x10030), // blt
+    (0x0062_c863, 1, ONES, 0x10024), // blt
+    (0x0062_d863, 5, 5, 0x10030), // bge
+    (0x0062_d863, ONES, 1, 0x10024), // bge
+    (0x0062_d863, 1, ONES, 0x10030), // bge
+    (0x0062_e863, 5, 5, 0x10024), // bltu
+    (0x0062_e863, ONES, 1, 0x10024), // bltu
+    (0x0062_e863, 1, ONES, 0x10030), // bltu
+    (0x0062_f863, 5, 5, 0x10030), // bgeu
+    (0x0062_f863, ONES, 1, 0x10030), // bgeu
+    (0x0062_f863, 1, ONES, 0x10024), // bgeu
 ];
 
 // Loads into t2 from the data's start in t0.
@@ -213,46 +214,130 @@ const STORES: [(u32, u64); 5] = [
 
 const DATA: u64 = 0xf0e1_d2c3_b4a5_9687;
 
-// A machine before one word, with sixteen bytes of data from 0x11000 on and three of input.
-fn machine_with(alloc: Global, word: u32, registers: [u64; 32]) -> Result<Machine, AllocError> {
-    let mut bytes = Vec::with_capacity(alloc, 16)?;
-    bytes.resize(8, 0)?;
+// lui s0, 0x11; ld a7, 16(s0); ld a0, 24(s0); ld a1, 32(s0); ld a2, 40(s0); ld t0, 48(s0); ld t1, 56(s0); nop
+const LOADING: [u32; 8] = [
+    0x0001_1437,
+    0x0104_3883,
+    0x0184_3503,
+    0x0204_3583,
+    0x0284_3603,
+    0x0304_3283,
+    0x0384_3303,
+    0x0000_0013,
+];
+
+// nop, three times; from 0x10030 on, sd t2, 16(s0); sd a0, 24(s0), and all the data is written: addi a7, zero, 64;
+// addi a0, zero, 1; addi a1, s0, 0; addi a2, zero, 64; ecall
+const WRITING: [u32; 10] = [
+    0x0000_0013,
+    0x0000_0013,
+    0x0000_0013,
+    0x0074_3823,
+    0x00a4_3c23,
+    0x0400_0893,
+    0x0010_0513,
+    0x0004_0593,
+    0x0400_0613,
+    0x0000_0073,
+];
+
+// a7, a0, a1, a2, t0 and t1.
+type Registers = [u64; 6];
+
+// An image with a text of 76 bytes, to 0x1004c, and 64 bytes of data from 0x11000 on, the registers in them.
+fn image(
+    alloc: Global,
+    word: u32,
+    registers: Registers,
+    behind: [u32; 10],
+) -> Result<Vec<u8>, AllocError> {
+    let mut bytes = Vec::from_slice(alloc, &HEADER)?;
+    for (place, size) in [
+        (96, 76),
+        (104, 76),
+        (152, 64),
+        (160, 64),
+        (161, 0),
+        (162, 0),
+    ] {
+        if let Some(old) = bytes.get_mut(place) {
+            *old = size;
+        }
+    }
+    bytes.resize(0x1000, 0)?;
+    for known in LOADING {
+        bytes.extend_from_slice(&known.to_le_bytes())?;
+    }
+    bytes.extend_from_slice(&word.to_le_bytes())?;
+    for known in behind {
+        bytes.extend_from_slice(&known.to_le_bytes())?;
+    }
+    bytes.resize(0x2008, 0)?;
     bytes.extend_from_slice(&DATA.to_le_bytes())?;
-    let hart = Hart {
-        text: Vec::from_array(alloc, word.to_le_bytes())?,
-        data: bytes,
-        data_start: 0x11000,
-        registers,
-        pc: 0x10000,
-        input: Vec::from_array(alloc, [97, 98, 99])?,
-        read: 0,
-    };
-    Ok(Machine {
-        hart,
-        state: MachineState::Running,
-    })
+    for register in registers {
+        bytes.extend_from_slice(&register.to_le_bytes())?;
+    }
+    Ok(bytes)
 }
 
-// The same, with t0 and t1.
-fn before(alloc: Global, word: u32, t0: u64, t1: u64) -> Result<Machine, AllocError> {
-    let mut registers = [0; 32];
-    registers[5] = t0;
-    registers[6] = t1;
-    machine_with(alloc, word, registers)
+// A machine with three bytes of input that has loaded the registers, and stands before the word.
+fn machine(
+    alloc: Global,
+    word: u32,
+    registers: Registers,
+    behind: [u32; 10],
+) -> Result<Machine, Fail> {
+    let bytes = image(alloc, word, registers, behind)?;
+    let input = Vec::from_array(alloc, [97, 98, 99])?;
+    let mut machine = Machine::load(&bytes, input).ok().ok_or("an image")?;
+    for _ in LOADING {
+        machine.step();
+    }
+    Ok(machine)
+}
+
+// What the step of a word does, and the data as it is written then: t2 stands in it from 16 on, and a0 from 24 on.
+fn done(alloc: Global, word: u32, registers: Registers) -> Result<(Event, Vec<u8>), Fail> {
+    let mut machine = machine(alloc, word, registers, WRITING)?;
+    let event = machine.step();
+    let mut out = Vec::new(alloc);
+    machine.run(100, &mut out)?;
+    Ok((event, out))
+}
+
+// Where the machine stands after a word: there it traps, since there are no more words.
+fn next(alloc: Global, word: u32, t0: u64, t1: u64) -> Result<Event, Fail> {
+    let mut machine = machine(alloc, word, [0, 0, 0, 0, t0, t1], [0; 10])?;
+    machine.step();
+    Ok(machine.step())
 }
 
 #[test]
 fn results_of_instructions(rt: HostRuntime) -> Result<(), Fail> {
     for (word, t0, t1, t2) in RESULTS {
-        let mut machine = before(rt.alloc(), word, t0, t1)?;
-        assert_eq!(rt; machine.step(), Event::Quiet, "{word:x}");
-        assert_eq!(rt; machine.hart.x(7), t2, "{word:x} of {t0:x} and {t1:x}");
-        assert_eq!(rt; machine.hart.pc, 0x10004);
+        let (event, out) = done(rt.alloc(), word, [0, 0, 0, 0, t0, t1])?;
+        assert_eq!(rt; event, Event::Quiet, "{word:x}");
+        let kept = t2.to_le_bytes();
+        assert_eq!(rt;
+            out.get(16..24),
+            Some(kept.as_slice()),
+            "{word:x} of {t0:x} and {t1:x}"
+        );
+        assert_eq!(rt; next(rt.alloc(), word, t0, t1)?, trapped(0x10024));
     }
+    Ok(())
+}
+
+#[test]
+fn branches(rt: HostRuntime) -> Result<(), Fail> {
     for (word, t0, t1, to) in BRANCHES {
-        let mut machine = before(rt.alloc(), word, t0, t1)?;
-        assert_eq!(rt; machine.step(), Event::Quiet, "{word:x}");
-        assert_eq!(rt; machine.hart.pc, to, "{word:x} on {t0:x} and {t1:x}");
+        let (event, _) = done(rt.alloc(), word, [0, 0, 0, 0, t0, t1])?;
+        assert_eq!(rt; event, Event::Quiet, "{word:x}");
+        assert_eq!(rt;
+            next(rt.alloc(), word, t0, t1)?,
+            trapped(to),
+            "{word:x} on {t0:x} and {t1:x}"
+        );
     }
     Ok(())
 }
@@ -260,38 +345,37 @@ fn results_of_instructions(rt: HostRuntime) -> Result<(), Fail> {
 #[test]
 fn loads_and_stores(rt: HostRuntime) -> Result<(), Fail> {
     for (word, t2) in LOADS {
-        let mut machine = before(rt.alloc(), word, 0x11000, 0)?;
-        assert_eq!(rt; machine.step(), Event::Quiet, "{word:x}");
-        assert_eq!(rt; machine.hart.x(7), t2, "{word:x}");
+        let (event, out) = done(rt.alloc(), word, [0, 0, 0, 0, 0x11000, 0])?;
+        assert_eq!(rt; event, Event::Quiet, "{word:x}");
+        let kept = t2.to_le_bytes();
+        assert_eq!(rt; out.get(16..24), Some(kept.as_slice()), "{word:x}");
     }
     for (word, bytes) in STORES {
-        let mut machine = before(rt.alloc(), word, 0x11000, 0x0123_4567_89ab_cdef)?;
-        assert_eq!(rt; machine.step(), Event::Quiet, "{word:x}");
-        let kept = Vec::from_slice(rt.alloc(), &bytes.to_le_bytes())?;
-        assert_eq!(rt;
-            machine.hart.data.get(8..16),
-            Some(kept.as_slice()),
-            "{word:x}"
-        );
+        let registers = [0, 0, 0, 0, 0x11000, 0x0123_4567_89ab_cdef];
+        let (event, out) = done(rt.alloc(), word, registers)?;
+        assert_eq!(rt; event, Event::Quiet, "{word:x}");
+        let kept = bytes.to_le_bytes();
+        assert_eq!(rt; out.get(8..16), Some(kept.as_slice()), "{word:x}");
     }
     Ok(())
 }
 
-// By the manual (2.4, 2.5): auipc t2, 0x80000; jal t2, .+16; jalr t2, 3(t0), which clears the lowest bit.
+// By the manual (2.4, 2.5): auipc t2, 0x80000; jal t2, .+16; jalr t2, 3(t0), which clears the lowest bit, and whose sum may wrap.
 #[test]
 fn addresses(rt: HostRuntime) -> Result<(), Fail> {
     let rows = [
-        (0x8000_0397, 0, 0xffff_ffff_8001_0000, 0x10004),
-        (0x0100_03ef, 0, 0x10004, 0x10010),
-        (0x0032_83e7, 0x10006, 0x10004, 0x10008),
-        (0x0032_83e7, u64::MAX, 0x10004, 2),
+        (0x8000_0397, 0, 0xffff_ffff_8001_0020, 0x10024),
+        (0x0100_03ef, 0, 0x10024, 0x10030),
+        (0x0032_83e7, 0x1002e, 0x10024, 0x10030),
     ];
     for (word, t0, t2, pc) in rows {
-        let mut machine = before(rt.alloc(), word, t0, 0)?;
-        assert_eq!(rt; machine.step(), Event::Quiet, "{word:x}");
-        assert_eq!(rt; machine.hart.x(7), t2, "{word:x}");
-        assert_eq!(rt; machine.hart.pc, pc, "{word:x}");
+        let (event, out) = done(rt.alloc(), word, [0, 0, 0, 0, t0, 0])?;
+        assert_eq!(rt; event, Event::Quiet, "{word:x}");
+        let kept = u64::to_le_bytes(t2);
+        assert_eq!(rt; out.get(16..24), Some(kept.as_slice()), "{word:x}");
+        assert_eq!(rt; next(rt.alloc(), word, t0, 0)?, trapped(pc), "{word:x}");
     }
+    assert_eq!(rt; next(rt.alloc(), 0x0032_83e7, u64::MAX, 0)?, trapped(2));
     Ok(())
 }
 
@@ -308,64 +392,70 @@ const TRAPS: [(u32, u64); 18] = [
     (0x0062_a123, 0x11000),
     (0x0062_b223, 0x11000),
     (0x0002_8383, 0xffff),
-    (0x0002_8383, 0x10004),
+    (0x0002_8383, 0x1004c),
     (0x0002_8383, 0x10fff),
-    (0x0002_8383, 0x11010),
-    (0x0002_b383, 0x10000),
+    (0x0002_8383, 0x11040),
+    (0x0002_b383, 0x10048),
     (0x0002_b383, u64::MAX - 7),
-    (0x0062_b023, 0x11010),
+    (0x0062_b023, 0x11040),
     (0x0062_8023, 0x10000),
     (0x0000_0073, 0),
 ];
 
 #[test]
 fn traps(rt: HostRuntime) -> Result<(), Fail> {
-    let trapped = Event::Trapped { address: 0x10000 };
     for (word, t0) in TRAPS {
-        let mut machine = before(rt.alloc(), word, t0, 0)?;
-        assert_eq!(rt; machine.step(), trapped, "{word:x} at {t0:x}");
-        assert_eq!(rt; machine.step(), trapped, "{word:x} at {t0:x}");
+        let mut machine = machine(rt.alloc(), word, [0, 0, 0, 0, t0, 0], WRITING)?;
+        assert_eq!(rt; machine.step(), trapped(0x10020), "{word:x} at {t0:x}");
+        assert_eq!(rt; machine.step(), trapped(0x10020), "{word:x} at {t0:x}");
     }
     // jalr zero, 0(t0) to an address that is no multiple of 4, and to the end of the text: the fetch there traps
-    for address in [0x10002, 0x10004, 0] {
-        let mut machine = before(rt.alloc(), 0x0002_8067, address, 0)?;
+    for address in [0x10002, 0x1004c, 0] {
+        let mut machine = machine(rt.alloc(), 0x0002_8067, [0, 0, 0, 0, address, 0], WRITING)?;
         assert_eq!(rt; machine.step(), Event::Quiet);
-        assert_eq!(rt; machine.step(), Event::Trapped { address });
+        assert_eq!(rt; machine.step(), trapped(address));
     }
     Ok(())
 }
 
-// a7, a0, a1 and a2 of an environment call; what the step does, and a0 behind it.
+// a7, a0, a1 and a2 of an environment call; what the step does, and a0 behind it where the machine goes on.
 #[test]
 fn environment_calls(rt: HostRuntime) -> Result<(), Fail> {
-    let trapped = Event::Trapped { address: 0x10000 };
     let rows = [
-        (63, 0, 0x11000, 2, Event::Quiet, 2),
-        (63, 0, 0x11000, 9, Event::Quiet, 3),
-        (63, 0, 0, 0, Event::Quiet, 0),
-        (63, 0, 0x10000, 1, trapped, 0),
-        (63, 0, 0x1100f, 2, trapped, 0),
-        (63, 1, 0x11000, 1, trapped, 1),
-        (64, 1, 0x11000, 16, wrote(0x11000, 16), 16),
-        (64, 1, 0x10001, 3, wrote(0x10001, 3), 3),
-        (64, 1, 0, 0, Event::Quiet, 0),
-        (64, 1, 0x11000, 17, trapped, 1),
-        (64, 1, 0x10003, 2, trapped, 1),
-        (64, 2, 0x11000, 1, trapped, 2),
-        (93, 0x1ff, 0, 0, Event::Ended(255), 0x1ff),
-        (0, 0, 0, 0, trapped, 0),
+        (63, 0, 0x11000, 2, Event::Quiet, Some(2)),
+        (63, 0, 0x11000, 9, Event::Quiet, Some(3)),
+        (63, 0, 0, 0, Event::Quiet, Some(0)),
+        (63, 0, 0x10000, 1, trapped(0x10020), None),
+        (63, 0, 0x1103f, 2, trapped(0x10020), None),
+        (63, 1, 0x11000, 1, trapped(0x10020), None),
+        (64, 1, 0x11000, 64, wrote(0x11000, 64), Some(64)),
+        (64, 1, 0x10001, 3, wrote(0x10001, 3), Some(3)),
+        (64, 1, 0, 0, Event::Quiet, Some(0)),
+        (64, 1, 0x11000, 65, trapped(0x10020), None),
+        (64, 1, 0x1004b, 2, trapped(0x10020), None),
+        (64, 2, 0x11000, 1, trapped(0x10020), None),
+        (93, 0x1ff, 0, 0, Event::Ended(255), None),
+        (0, 0, 0, 0, trapped(0x10020), None),
     ];
     for (a7, a0, a1, a2, event, result) in rows {
-        let mut registers = [0; 32];
-        registers[17] = a7;
-        registers[10] = a0;
-        registers[11] = a1;
-        registers[12] = a2;
-        let mut machine = machine_with(rt.alloc(), 0x0000_0073, registers)?;
-        assert_eq!(rt; machine.step(), event, "{a7} of {a0}, {a1:x}, {a2}");
-        assert_eq!(rt; machine.hart.x(10), result, "{a7} of {a0}, {a1:x}, {a2}");
+        let (found, out) = done(rt.alloc(), 0x0000_0073, [a7, a0, a1, a2, 0, 0])?;
+        assert_eq!(rt; found, event, "{a7} of {a0}, {a1:x}, {a2}");
+        if let Some(left) = result {
+            let kept = u64::to_le_bytes(left);
+            assert_eq!(rt;
+                out.get(24..32),
+                Some(kept.as_slice()),
+                "{a7} of {a0}, {a1:x}, {a2}"
+            );
+        } else {
+            assert_eq!(rt; out.len(), 0);
+        }
     }
     Ok(())
+}
+
+fn trapped(address: u64) -> Event {
+    Event::Trapped { address }
 }
 
 fn wrote(address: u64, length: u64) -> Event {

@@ -95,7 +95,8 @@ fn faults_of_items(rt: HostRuntime) -> Result<(), Fail> {
     Ok(())
 }
 
-/// Each stands in a line of its own, in a function with a struct variable s and an `int` x, beside an array A and a function g.
+/// Each stands in a line of its own, in a function with a struct variable s and an `int` x, beside an array A and a function g. A fault
+/// of a label has the line of the function.
 #[test]
 fn faults_of_statements(rt: HostRuntime) -> Result<(), Fail> {
     let rows = [
@@ -144,9 +145,13 @@ fn faults_of_statements(rt: HostRuntime) -> Result<(), Fail> {
     ];
     for (body, kind) in rows {
         let text = format!(in rt.alloc();
-            "struct p {{ int x; }}; int g () {{ return 1; }} int A[1]; int f () {{ struct p s; int x;\n{body}\nL: return 1; }}"
+            "struct p {{ int x; }};\nint g () {{ return 1; }}\nint A[1];\nint f () {{ struct p s; int x;\n{body}\nL: return 1; }}"
         )?;
-        let line = if kind == ' ' { 0 } else { 2 };
+        let line = match kind {
+            ' ' => 0,
+            'b' => 4,
+            _ => 5,
+        };
         assert_eq!(rt;
             fault_of(rt.alloc(), text.as_str())?,
             (kind, line),
@@ -185,6 +190,7 @@ M:
   __builtin_getchar ();
   __builtin_putchar (x);
   __builtin_exit (0);
+  return;
 }
 ";
 
@@ -279,6 +285,7 @@ fn second_half(alloc: Global) -> Result<Vec<Statement>, Fail> {
         Statement::Getchar(None),
         Statement::Putchar(x),
         Statement::Exit(number(ScalarType::Int, 0)),
+        Statement::ReturnVoid,
     ]?)
 }
 
@@ -293,7 +300,7 @@ fn every_form(rt: HostRuntime) -> Result<(), Fail> {
     let f = found.functions.get(1);
     assert_eq!(rt; f.variables.len(), 4);
     assert_eq!(rt; f.labels.len(), 2);
-    assert_eq!(rt; f.body.len(), 21);
+    assert_eq!(rt; f.body.len(), 22);
     let (first, second) = f.body.as_slice().split_at(8);
     assert_eq!(rt; first, first_half(alloc)?.as_slice());
     assert_eq!(rt; second, second_half(alloc)?.as_slice());

@@ -1,9 +1,8 @@
 -- A program of the first form is a well formed program of the source language.
-use Rattle.std.proofs.Common.{◌≡◌, ℕ, zero, suc, ◌-◌, true, false, List, [], ◌∷◌, ◌++◌, length, Some, None, refl, ap, ◌∙◌, arith, length-append}
+use Rattle.std.proofs.Common.{◌≡◌, ℕ, ℤ, ◌-◌, true, false, List, [], ◌∷◌, ◌++◌, length, Some, None, refl, ap, ◌∙◌, arith, length-append}
 use Rattle.std.specs.Prelude.{map, All, slice_get, nat_eq, ◌&&◌}
 use Rattle.std.specs.List.{filter_map, list_all}
 use Rattle.std.specs.Option.{option_map_or}
-use Rattle.std.proofs.lemmas.Int.{ints}
 use Rattle.std.proofs.lemmas.Bool.{and_from}
 use Rattle.std.proofs.lemmas.List.{length-map}
 use Rattle.std.proofs.lemmas.List.Elements.{All-nil, All-cons, All-append, All-map, All-weaker}
@@ -14,7 +13,7 @@ use Rattle.gimple_ir.specs.Values.{InRange}
 use Rattle.gimple_ir.specs.Statements.{statement_kind}
 use Rattle.gimple_ir.specs.Checks.{label_of, goes_within, counts_up, ends}
 use Rattle.gimple_ir.specs.Programs.{HasValues, scope_of, IsProgramFunction}
-use Rattle.first_form.specs.Form.{FirstForm, IsFirstForm, operand_of, putchar_of, statements_of, function_of, program_of}
+use Rattle.first_form.specs.Form.{FirstForm, operand_of, putchar_of, statements_of, function_of, program_of}
 use Rattle.first_form.specs.Laws.{FirstFormWellFormed}
 
 -- ---- the body

@@ -1,5 +1,5 @@
 -- The first form of a module: `int main ()`, strong, without variables, which calls putchar with `int` literals and then returns one.
-use Rattle.std.specs.Prelude.{◌≡◌, ℕ, ◌+◌, ◌*◌, ◌≤◌, ℤ, List, [], ◌∷◌, ◌++◌, length, map, All, codes, Some}
+use Rattle.std.specs.Prelude.{◌≤◌, ℤ, List, [], ◌∷◌, ◌++◌, length, map, All, codes, Some}
 use Rattle.gimple_ir.specs.declared.types.ScalarType.TheVariants as types
 use Rattle.gimple_ir.specs.declared.types.ResultType.TheVariants as returned
 use Rattle.gimple_ir.specs.declared.types.Linkage.TheVariants.{Strong}

@@ -1,5 +1,6 @@
-use Rattle.std.proofs.Common.{◌≡◌, ℕ, List, None, refl, sym, subst, ◌∙◌}
-use Rattle.std.specs.Prelude.{Ok}
+use Rattle.std.proofs.Common.{◌≡◌, ℕ, List, [], sym, ap, subst, ◌∙◌}
+use Rattle.std.specs.Prelude.{Result, Ok, Err}
+use Rattle.plain_link.specs.declared.fault.LinkFault.{LinkFault}
 use Rattle.follow_laws.specs.Follows.{Follows}
 use Rattle.first_form.specs.Form.{program_of}
 use Rattle.first_form.specs.Laws.{FirstFormLinks, FirstFormFollows, IsLoadable}
@@ -12,12 +13,13 @@ use Rattle.first_form.proofs.laws.first_form_follows.Goals as goal
 links : FirstFormLinks
 links form is = (form_image form, form_links form is)
 
-ok_same : (a b : List ℕ) → Ok a ≡ Ok b → a ≡ b
-ok_same a b e = cc
+abbrev image_of : Result (List ℕ) LinkFault → List ℕ
+image_of (Ok image) = image
+image_of (Err fault) = []
 
 follows : FirstFormFollows
 follows form is image linked =
-    let same = ok_same (form_image form) image (sym (form_links form is) ∙ linked) in
+    let same : form_image form ≡ image = ap image_of (sym (form_links form is) ∙ linked) in
     subst (λ (bytes : List ℕ). IsLoadable bytes × Follows bytes (program_of form)) same
     (form_loads form is.puts is.status is.few, form_follows form is.puts is.status is.few)
 

@@ -1,7 +1,6 @@
-pub mod FormLaws
 pub mod TemplateLaws
 pub mod MachineLaws
 pub mod FollowLaws
-pub mod SpellingLaws
 pub mod WellFormedLaws
+pub mod LinkLaws
 mod WorkedRows

@@ -17,7 +17,7 @@ use Rattle.follow_laws.proofs.WayLaws.{leads_twice, comes_to_end, comes_of, stan
 use Rattle.follow_laws.proofs.FrameLaws.{low_byte_kept, data_reached}
 use Rattle.follow_laws.proofs.TemplateLaws.{wide_32, constant_sets, call_goes, enter_makes_frame, leave_returns}
 use Rattle.follow_laws.proofs.StubLaws.{start_calls, exit_ends, putchar_writes}
-use Rattle.first_form.specs.Form.{putchar_code}
+use Rattle.first_form.proofs.TemplateLaws.{putchar_code}
 
 -- where data, the scratch byte and the stack lie, and the stub of putchar
 pub record Surrounds (m : Segments) (scratch top : ℕ) : Type 0 where

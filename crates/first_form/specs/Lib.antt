@@ -1,4 +1,2 @@
 pub mod Form
-pub mod FormReading
-pub mod Source
-pub mod Compiled
+pub mod Laws

@@ -1,10 +1,9 @@
-// What is proved of every program of the first form: a function that does nothing, whose clauses are the laws.
-ghost use Rattle.first_form.specs.Source.{SpellsOnce, FirstFormWellFormed, FirstFormLoads, FirstFormFollows};
+// What is proved of every module of the first form: a function that does nothing, whose clauses are the laws.
+ghost use Rattle.first_form.specs.Laws.{FirstFormWellFormed, FirstFormLinks, FirstFormFollows};
 
-/// Each program of the first form is well formed, and a text spells one at most; its image can be loaded, and follows it.
+/// Each module of the first form is a well formed program and has an image, which can be loaded and follows the program.
 pub fn first_form_follows()
     ensures well_formed { FirstFormWellFormed }
-    ensures once { SpellsOnce }
-    ensures loads { FirstFormLoads }
+    ensures links { FirstFormLinks }
     ensures follows { FirstFormFollows }
 {}

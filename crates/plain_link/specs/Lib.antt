@@ -1,0 +1,5 @@
+pub mod Numbers
+pub mod Known
+pub mod Lowering
+pub mod Objects
+pub mod Linking

@@ -4,5 +4,6 @@ pub mod Encodes
 pub mod Fits
 pub mod Naming
 pub mod Parts
+pub mod Relocating
 pub mod Whole
 pub mod TestedFunction

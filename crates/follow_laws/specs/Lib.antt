@@ -6,3 +6,4 @@ pub mod Images
 pub mod Frames
 pub mod Laws
 pub mod Selections
+pub mod Patched

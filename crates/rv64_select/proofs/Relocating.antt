@@ -1,16 +1,15 @@
 -- The relocations of a function are at words that they may fill, one behind the other.
-use Rattle.std.proofs.Common.{◌≡◌, ℕ, zero, suc, ◌+◌, ◌*◌, ◌/◌, ◌%◌, ◌^◌, ◌<◌, ◌≤◌, pos, Bool, true, false, cond, ◌&&◌, ◌||◌, List, [], ◌∷◌, ◌++◌, length, map, Some, refl, sym, ap, ◌∙◌, arith, append_assoc, length-append}
+use Rattle.std.proofs.Common.{◌≡◌, ℕ, zero, suc, ◌+◌, ◌*◌, ◌/◌, ◌%◌, ◌^◌, ◌<◌, ◌≤◌, pos, true, false, cond, ◌&&◌, ◌||◌, List, [], ◌∷◌, ◌++◌, length, map, Some, refl, sym, ap, ◌∙◌, arith, append_assoc, length-append}
 use Rattle.std.specs.Prelude.{◌==◌, nat_le, slice_get}
 use Rattle.std.proofs.lemmas.List.{map-append, length-map}
 use Rattle.std.proofs.lemmas.Bool.{and_from, eq-eqb, le-leb}
 use Rattle.elf_container.specs.declared.format.TheConstants.{R_RISCV_CALL_PLT, R_RISCV_HI20, R_RISCV_LO12_I, R_RISCV_LO12_S}
 use Rattle.elf_container.specs.declared.relocatable.Reloc.{Reloc}
-use Rattle.elf_container.specs.Relocatable.{opcode, funct3, is_auipc, is_jalr, is_lui, is_load, is_store, next_is_jalr, fills_by, fills, reach, relocs_from}
+use Rattle.elf_container.specs.Relocatable.{opcode, funct3, is_auipc, is_jalr, is_lui, is_load, is_store, fills_by, fills, reach, relocs_from}
 use Rattle.gimple_ir.specs.declared.types.ScalarType.TheVariants as types
 use Rattle.gimple_ir.specs.declared.types.ElementType.{ElementType}
 use Rattle.gimple_ir.specs.declared.types.ElementType.TheVariants as elements
 use Rattle.gimple_ir.specs.declared.versioned.VersionedFunction.{VersionedFunction}
-use Rattle.rv64_isa.specs.declared.instr.Instr.{Instr}
 use Rattle.rv64_isa.specs.declared.instr.Instr.TheVariants.{Lui, Auipc, Jalr}
 use Rattle.rv64_isa.specs.Format.{IsRegister, word_of_fields}
 use Rattle.rv64_isa.specs.Words.{word_of}
@@ -20,8 +19,8 @@ use Rattle.rv64_select.specs.declared.item.Item.TheVariants as item
 use Rattle.rv64_select.specs.declared.references.Reference.{Reference}
 use Rattle.rv64_select.specs.Operations.{element_load, element_store}
 use Rattle.rv64_select.specs.Assembly.{assembly_of}
-use Rattle.rv64_select.specs.Code.{words_of, laid, blank, label_offset, unfilled}
-use Rattle.rv64_select.specs.Selected.{words_of_code, names_of_code, relocations_of_code, reference_of, references, relocation_of}
+use Rattle.rv64_select.specs.Code.{words_of, laid, blank, label_offset}
+use Rattle.rv64_select.specs.Selected.{words_of_code, names_of_code, relocations_of_code, reference_of, relocation_of}
 use Rattle.rv64_select.specs.Versioned.{IsVersioned}
 use Rattle.rv64_select.proofs.Laying.{length-blank}
 use Rattle.rv64_select.proofs.Fits.{ItemFits, AllFit, assembly_fits}
@@ -119,7 +118,7 @@ relocs_then least words r rs h e g k =
 
 -- ---- items
 
--- where the relocations of items are
+-- the relocations of references by these names
 abbrev relocated : VersionedFunction → List (List ℕ) → List Reference → List Reloc
 relocated f names refs = map (relocation_of f names) refs
 

@@ -8,3 +8,6 @@ pub mod ImageLaws
 pub mod LoadableLaws
 pub mod SelectionLaws
 pub mod FrameLaws
+pub mod RegisterLaws
+pub mod PatchLaws
+pub mod NamedLaws

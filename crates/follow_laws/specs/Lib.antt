@@ -7,3 +7,4 @@ pub mod Frames
 pub mod Laws
 pub mod Selections
 pub mod Direct
+pub mod Patched

@@ -4,7 +4,8 @@
 //! In specs/, `Follows` has the promise, `Relation` what it is for the machine to come from one state to another and for
 //! instructions to stand at a place, `Laws` how ways are joined and why a simulation is enough, `Effects` what the templates of
 //! code and the stubs do, `Selections` where the code of steps stands and what operands leave, `Frames` how a frame lies in memory, `Encodings` that all of it has
-//! words, and `Images` what the machine finds in an image.
+//! words, `Images` what the machine finds in an image, and `Patched` that relocations make a function's code in an object its code
+//! at an address.
 #![tactic(auto)]
 
 ghost use Rattle.follow_laws.specs.Effects.{ConstantSets, LoadSets, StoreStores, CallGoes, EnterMakesFrame, LeaveReturns, StartCalls, ExitEnds, PutcharWrites, GetcharReads};
@@ -12,6 +13,7 @@ ghost use Rattle.follow_laws.specs.Encodings.{ConstantEncodes, LoadEncodes, Stor
 ghost use Rattle.follow_laws.specs.Frames.{LowByteKept, FreshHeld, StoreApart, StoreSets, OperandHeld, DataReached};
 ghost use Rattle.follow_laws.specs.Images.{ImageLoads, ImageHasSegments, ImageHasCode, CodeHasWords, CodeJoins};
 ghost use Rattle.follow_laws.specs.Laws.{ComesOn, LeadsOn, LeadsTwice, LeadsComes, ComesToLead, ComesToEnd, InstructionLeads, FrontStands, BackStands, FollowsBefore, SimulationFollows};
+ghost use Rattle.follow_laws.specs.Patched.{PatchedIsDirect, OwnNamesPatched, SameLength, NamesStand, PlaceHasName};
 ghost use Rattle.follow_laws.specs.Selections.{StepsStand, OperandSets, OperandEncodes};
 
 /// How the machine's ways from state to state are joined, and instructions that stand one after the other are parted.
@@ -87,4 +89,13 @@ pub fn frames()
     ensures sets { StoreSets }
     ensures operand { OperandHeld }
     ensures reached { DataReached }
+{}
+
+/// That the code of a function in an object, with the fields filled that its relocations name, is its code at the address.
+pub fn patched_is_direct()
+    ensures words { PatchedIsDirect }
+    ensures own { OwnNamesPatched }
+    ensures length { SameLength }
+    ensures names { NamesStand }
+    ensures place { PlaceHasName }
 {}

@@ -4,4 +4,5 @@ pub mod Encodes
 pub mod Fits
 pub mod Naming
 pub mod Parts
+pub mod Relocating
 pub mod Whole

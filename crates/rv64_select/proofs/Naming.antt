@@ -1,6 +1,6 @@
--- Names, each once, and their places.
-use Rattle.std.proofs.Common.{◌≡◌, ℕ, zero, suc, get_or, drop, ◌+◌, ◌<◌, ◌≤◌, Bool, true, false, cond, not, ◌||◌, eqb, nat_lt, List, [], ◌∷◌, ◌++◌, length, Option, Some, None, refl, sym, ap, ◌∙◌, subst, arith}
-use Rattle.std.specs.Prelude.{position, fold}
+-- Names, each once, and their places; relocations name them in their order.
+use Rattle.std.proofs.Common.{◌≡◌, ℕ, zero, suc, get_or, drop, ◌+◌, ◌<◌, ◌≤◌, Bool, true, false, cond, not, ◌||◌, eqb, nat_lt, List, [], ◌∷◌, ◌++◌, length, Option, Some, None, refl, sym, ap, ◌∙◌, subst, arith, append_assoc}
+use Rattle.std.specs.Prelude.{position, fold, map, ◌==◌}
 use Rattle.std.specs.List.{list_any, position_or_len}
 use Rattle.std.specs.Str.{bytes_eq}
 use Rattle.std.specs.Ordering.{nat_cmp}
@@ -8,18 +8,22 @@ use Rattle.std.specs.Cmp.{nat_eq_equiv}
 use Rattle.std.specs.Cmp.Lexicographic.{slice_cmp, lists_equiv}
 use Rattle.std.specs.BTreeMap.{BTreeMap, UpdatesBy, get_by}
 use Rattle.std.proofs.lemmas.Map.Text.{btree_map_updates_str}
+use Rattle.std.specs.Option.{option_map_or}
+use Rattle.std.proofs.lemmas.Bool.{or_parts, or_from, le-ltb, eq-eqb}
 use Rattle.std.proofs.lemmas.Bool.Decides.{nat_tests}
-use Rattle.std.proofs.lemmas.List.{length_push}
+use Rattle.std.proofs.lemmas.List.{length_push, append-nil}
 use Rattle.std.proofs.lemmas.List.Folds.{position_or_len_push}
 use Rattle.std.proofs.lemmas.List.Sums.{prefix_len-le-length}
 use Rattle.std.proofs.lemmas.Slice.Eq.{bytes_eq-Decides}
 use denote.Ref.{Bor}
 use Rattle.elf_container.specs.declared.relocatable.Reloc.{Reloc}
-use Rattle.gimple_ir.specs.Names.{is_among}
+use Rattle.elf_container.specs.Relocatable.{after, named_in_order}
+use Rattle.gimple_ir.specs.Names.{is_among, repeats, repeats_after}
 use Rattle.gimple_ir.specs.declared.versioned.VersionedFunction.{VersionedFunction}
 use Rattle.rv64_select.specs.declared.references.Reference.{Reference}
 use Rattle.rv64_select.specs.Code.{symbol_name}
-use Rattle.rv64_select.specs.Selected.{with_name, with_reference, place_of, relocation_of}
+use Rattle.rv64_select.specs.Assembly.{assembly_of}
+use Rattle.rv64_select.specs.Selected.{with_name, with_reference, place_of, relocation_of, references, names_of_code, relocations_of_code}
 use Rattle.rv64_select.specs.Placed.{IsPlaced}
 
 -- ---- the first place
@@ -153,6 +157,63 @@ relocation_kept f final names new r rs place e is at =
     ∙ sym (at ∙ ap (λ (ns : List (List ℕ)). place_of ns name) is) in
     let made : ℕ → Reloc = λ n. record { offset = r.offset; kind = r.kind; symbol = n } in
     ap made found
+
+-- ---- relocations name the names in their order
+
+after_last : (n : ℕ) → after n n ≡ Some (n + 1)
+after_last n = ap (λ (b : Bool). cond b (Some n) (cond (n == n) (Some (n + 1)) None)) (le-ltb n n (omega arith)) ∙ ap (λ (b : Bool). cond b (Some (n + 1)) None) (eq-eqb n n refl)
+
+-- a reference names a name that stands, or the one that it puts behind them
+after_by : (b : Bool) (names : List (List ℕ)) (name : List ℕ) → nat_lt (place_of names name) (length names) ≡ b
+    → after (length names) (place_of (with_name names name) name) ≡ Some (length (with_name names name))
+after_by true names name e =
+    let is : with_name names name ≡ names = ap (λ (b : Bool). cond b names (names ++ name ∷ [])) (among_place (bytes_eq name) names ∙ e) in
+    rw (is, e) refl
+after_by false names name e =
+    let is : with_name names name ≡ names ++ name ∷ [] = ap (λ (b : Bool). cond b names (names ++ name ∷ [])) (among_place (bytes_eq name) names ∙ e) in
+    let at : place_of (names ++ name ∷ []) name ≡ length names = rw (position_or_len_push (bytes_eq name) names name, same_name name) (push_at (place_of names name) (length names) (place_le (bytes_eq name) names) e) in
+    rw (is, at, length_push names name) (after_last (length names))
+
+named_from : (f : VersionedFunction) (rs : List Reference) (names final : List (List ℕ)) → fold (with_reference f) names rs ≡ final
+    → named_in_order (length names) (length final) (map (relocation_of f final) rs) ≡ true
+named_from f [] names final e = eq-eqb (length names) (length final) (ap length e)
+named_from f (r ∷ rs) names final e =
+    let name = symbol_name f r.symbol in
+    let new = with_name names name in
+    let behind : ℕ → Bool = λ later. named_in_order later (length final) (map (relocation_of f final) rs) in
+    let at : place_of final name ≡ place_of new name = ap (λ (ns : List (List ℕ)). place_of ns name) (sym e) ∙ place_kept f rs new name (placed_here names name) in
+    ap (λ (n : ℕ). option_map_or behind (after (length names) n) false) at
+    ∙ ap (λ (o : Option ℕ). option_map_or behind o false) (after_by (nat_lt (place_of names name) (length names)) names name refl)
+    ∙ named_from f rs new final e
+
+pub whole_in_order : (f : VersionedFunction) (names : List (List ℕ)) (relocations : List Reloc) → names ≡ names_of_code f → relocations ≡ relocations_of_code f
+    → named_in_order 0 (length names) relocations ≡ true
+unfolding names_of_code relocations_of_code
+whole_in_order f names relocations e g =
+    ap (λ (ns : List (List ℕ)). named_in_order 0 (length ns) relocations) e ∙ ap (named_in_order 0 (length (names_of_code f))) g
+    ∙ named_from f (references (assembly_of f)) [] (names_of_code f) refl
+
+-- ---- no name stands twice
+
+push_once : (before names : List (List ℕ)) (name : List ℕ) → repeats_after before names ≡ false → is_among (before ++ names) name ≡ false → repeats_after before (names ++ name ∷ []) ≡ false
+push_once before [] name h e = or_from _ _ (ap (λ (ns : List (List ℕ)). is_among ns name) (sym (append-nil before)) ∙ e) refl
+push_once before (n ∷ ns) name h e =
+    let parts = or_parts (is_among before n) (repeats_after (before ++ n ∷ []) ns) h in
+    or_from _ _ parts.0 (push_once (before ++ n ∷ []) ns name parts.1 (ap (λ (ms : List (List ℕ)). is_among ms name) (append_assoc before (n ∷ []) ns) ∙ e))
+
+with_once : (b : Bool) (names : List (List ℕ)) (name : List ℕ) → is_among names name ≡ b → repeats names ≡ false → repeats (cond b names (names ++ name ∷ [])) ≡ false
+with_once true names name e h = h
+with_once false names name e h = push_once [] names name h e
+
+once_from : (f : VersionedFunction) (rs : List Reference) (names : List (List ℕ)) → repeats names ≡ false → repeats (fold (with_reference f) names rs) ≡ false
+once_from f [] names h = h
+once_from f (r ∷ rs) names h =
+    let name = symbol_name f r.symbol in
+    once_from f rs (with_name names name) (with_once (is_among names name) names name refl h)
+
+pub whole_once : (f : VersionedFunction) (names : List (List ℕ)) → names ≡ names_of_code f → repeats names ≡ false
+unfolding names_of_code
+whole_once f names e = ap repeats e ∙ once_from f (references (assembly_of f)) [] refl
 
 -- ---- lists
 

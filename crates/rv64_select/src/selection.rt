@@ -1,5 +1,7 @@
 //! The code of a function in an object.
-ghost use Rattle.std.specs.Prelude.{◌≡◌, ◌*◌, ◌≤◌, length, IfOk};
+ghost use Rattle.std.specs.Prelude.{◌≡◌, ◌*◌, ◌≤◌, length, IfOk, true, false};
+ghost use Rattle.elf_container.specs.Relocatable.{relocs_from, named_in_order};
+ghost use Rattle.gimple_ir.specs.Names.{repeats};
 ghost use Rattle.rv64_frame.specs.Frames.{frame_of};
 ghost use Rattle.rv64_select.specs.Selected.{words_of_code, names_of_code, relocations_of_code};
 ghost use Rattle.rv64_select.specs.Versioned.{IsVersioned, bound_of};
@@ -37,6 +39,12 @@ pub fn code(
     ensures words { IfOk result (λ code. code.words ≡ words_of_code function.now) }
     ensures relocations { IfOk result (λ code. code.relocations ≡ relocations_of_code function.now) }
     ensures names { IfOk result (λ code. code.names ≡ names_of_code function.now) }
+    // each relocation is at a word that it may fill, one behind the other
+    ensures fills { IfOk result (λ code. relocs_from 0 code.words code.relocations ≡ true) }
+    // they name the names in their order, and all of them
+    ensures named { IfOk result (λ code. named_in_order 0 (length code.names) code.relocations ≡ true) }
+    // no name stands twice
+    ensures once { IfOk result (λ code. repeats code.names ≡ false) }
     ensures bound { IfOk result (λ code. 4 * length code.words ≤ bound_of function.now) }
 {
     let items = assembly(alloc, function, layout)?;

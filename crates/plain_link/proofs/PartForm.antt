@@ -32,11 +32,10 @@ kind_by false false false false k p q s t e f g h l = absurd cc
 
 filled_by : (kind : ℕ) (o next : Option ℕ) (words : List ℕ) (place : ℕ) → slice_get words place ≡ o → fills_by kind o next ≡ true → (place < length words) × (kind < 2 ^ 32)
 filled_by kind None next words place e h = absurd cc
-filled_by kind (Some w) next words place e h = 
-    (
-      slice_get_within words place w e,
-      kind_by (eqb kind 19) (eqb kind 26) (eqb kind 27) (eqb kind 28) kind (is_auipc w && next_is_jalr next) (is_lui w) (is_load w) (is_store w) refl refl refl refl h,
-    )
+filled_by kind (Some w) next words place e h = (
+  slice_get_within words place w e,
+  kind_by (eqb kind 19) (eqb kind 26) (eqb kind 27) (eqb kind 28) kind (is_auipc w && next_is_jalr next) (is_lui w) (is_load w) (is_store w) refl refl refl refl h,
+)
 
 filled : (kind place : ℕ) (words : List ℕ) → fills kind place words ≡ true → (place < length words) × (kind < 2 ^ 32)
 unfolding fills
@@ -127,7 +126,7 @@ after_at_placed false own next symbol later t e f =
 
 after_placed : (own next symbol later : ℕ) → after next symbol ≡ Some later → after (next_place own next) (object_place own symbol) ≡ Some (next_place own later)
 after_placed own next symbol later e = elim (after_is next symbol later e) [
-  inl h ↦ after_below (next_place own next) (object_place own symbol) (below_placed own next symbol h.0) ∙ ap (λ n. Some (next_place own n)) (sym h.1)
+  | inl h ↦ after_below (next_place own next) (object_place own symbol) (below_placed own next symbol h.0) ∙ ap (λ n. Some (next_place own n)) (sym h.1)
   | inr h ↦ after_at_placed (eqb next own) own next symbol later refl h.0 h.1
 ]
 
@@ -147,7 +146,7 @@ named_placed own next count (r ∷ rs) e =
 
 after_order : (next symbol later : ℕ) → after next symbol ≡ Some later → (symbol < later) × (next ≤ later) × (later ≤ next + 1)
 after_order next symbol later e = elim (after_is next symbol later e) [
-  inl h ↦ (omega (arith, h.0, h.1), omega (arith, h.1), omega (arith, h.1))
+  | inl h ↦ (omega (arith, h.0, h.1), omega (arith, h.1), omega (arith, h.1))
   | inr h ↦ (omega (arith, h.0, h.1), omega (arith, h.1), omega (arith, h.1))
 ]
 

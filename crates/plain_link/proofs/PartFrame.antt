@@ -45,13 +45,12 @@ begins : (size slot : ℕ) (labels : ℕ → ℕ) (rest : List Item) → constan
     → (more : List Instr) × (laid (blank labels) 0 (plain (enter_code size slot) ++ rest) ≡ frame_code size ++ more)
 begins size slot labels rest same =
     let w = laid_plain labels 0 (enter_code size slot) rest in
-    let kept = store_slot ra slot in
-    (
+    let kept = store_slot ra slot in (
       kept ++ w.0,
       w.1
-      ∙ ap (λ (first : List Instr). (first ++ (Add sp sp t0 ∷ kept)) ++ w.0) same
-      ∙ append_assoc (frame_constant size) (Add sp sp t0 ∷ kept) w.0
-      ∙ sym (append_assoc (frame_constant size) (Add sp sp t0 ∷ []) (kept ++ w.0)),
+          ∙ ap (λ (first : List Instr). (first ++ (Add sp sp t0 ∷ kept)) ++ w.0) same
+          ∙ append_assoc (frame_constant size) (Add sp sp t0 ∷ kept) w.0
+          ∙ sym (append_assoc (frame_constant size) (Add sp sp t0 ∷ []) (kept ++ w.0)),
     )
 
 -- ---- the frame

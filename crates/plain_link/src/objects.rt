@@ -94,11 +94,7 @@ fn symbols_of(
     Ok(List::from_vec(symbols))
 }
 
-fn relocations_of(
-    alloc: Global,
-    own: u32,
-    relocations: &[Reloc],
-) -> Result<List<Reloc>, NoMemory>
+fn relocations_of(alloc: Global, own: u32, relocations: &[Reloc]) -> Result<List<Reloc>, NoMemory>
     requires { All (λ r. r.symbol < 2 ^ 32 - 1) relocations.now }
     ensures { IfOk result (λ found. found ≡ map (placed own) relocations.now) }
 {

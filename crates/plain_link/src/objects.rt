@@ -1,12 +1,14 @@
 //! The relocatable object of one version.
-ghost use Rattle.std.specs.Prelude.{◌≡◌, ◌<◌, ◌+◌, ◌*◌, ◌^◌, length, map, All, IfOk, codes};
-ghost use Rattle.gimple_ir.specs.declared.versioned.VersionedFunction.{VersionedFunction};
+ghost use Rattle.std.specs.Prelude.{◌≡◌, ◌<◌, ◌-◌, ◌*◌, ◌≤◌, ◌^◌, length, map, All, IfOk, true, false, ◌∷◌};
+ghost use Rattle.std.specs.List.{AllByRecursion};
+ghost use Rattle.gimple_ir.specs.Names.{repeats};
 ghost use Rattle.ipa_transform.specs.Versioned.{versioned_of};
 ghost use Rattle.ipa_transform.specs.Members.{IsMember};
-ghost use Rattle.rv64_select.specs.Versioned.{IsVersioned};
-ghost use Rattle.rv64_select.specs.Selected.{words_of_code, names_of_code, relocations_of_code};
+ghost use Rattle.elf_container.specs.Relocatable.{SymbolFits, relocs_from, named_in_order};
+ghost use Rattle.rv64_select.specs.Versioned.{IsVersioned, bound_of};
+ghost use Rattle.rv64_select.specs.Selected.{words_of_code, names_of_code, relocations_of_code, place_of};
 ghost use Rattle.plain_link.specs.Known.{IsPart};
-ghost use Rattle.plain_link.specs.Objects.{own_symbol, other_symbol, other_names, object_of};
+ghost use Rattle.plain_link.specs.Objects.{defined_symbol, other_symbol, others, object_place, placed, object_of};
 
 use elf_container::{RelSymbol, Reloc, RelocObject};
 use gimple_ir::{List, Member, Name, NoMemory, VersionedFunction};
@@ -15,27 +17,61 @@ use rv64_frame::frame;
 use rv64_select::{FunctionCode, code};
 use std::alloc::Global;
 
-// The place of a version's own symbol among the names that its code refers to.
-fn own_place(own: &Name, names: &[Name]) -> Option<u32>
+// The place of a version's own symbol among the names of its code, or their count.
+fn own_place(own: &Name, names: &[Name]) -> u32
     requires { length names.now < 2 ^ 32 }
+    ensures { result ≡ place_of names.now own.now }
 {
-    for (place, name) in names.iter().enumerate() {
-        if name == own {
-            return Some(place as u32);
+    let mut place = 0;
+    for name in names {
+        if own == name {
+            return place;
         }
+        place += 1;
     }
-    None
+    place
 }
 
-// The place in the object's symbols, of which the version's own is the first, of a name.
-fn symbol_place(own: Option<u32>, name: u32) -> u32
+// The place in the object's symbols, of which the version's own is the first, of one of the code's names.
+fn symbol_place(own: u32, name: u32) -> u32
     requires { name < 2 ^ 32 - 1 }
+    ensures { result ≡ object_place own name }
 {
-    match own {
-        Some(place) if name == place => 0,
-        Some(place) if place < name => name,
-        _ => name + 1,
+    if name == own {
+        return 0;
     }
+    if name < own { name + 1 } else { name }
+}
+
+fn defined(own: &Name, size: u64) -> Result<RelSymbol, NoMemory>
+    ensures value { IfOk result (λ symbol. symbol ≡ defined_symbol own.now size) }
+    ensures fits { IfOk result SymbolFits }
+{
+    Ok(RelSymbol {
+        name: own.copy()?,
+        start: Some(0),
+        size,
+    })
+}
+
+fn undefined(name: &Name) -> Result<RelSymbol, NoMemory>
+    ensures value { IfOk result (λ symbol. symbol ≡ other_symbol name.now) }
+    ensures fits { IfOk result SymbolFits }
+{
+    Ok(RelSymbol {
+        name: name.copy()?,
+        start: None,
+        size: 0,
+    })
+}
+
+// The number of bytes of words.
+fn byte_count(words: &[u32]) -> u64
+    requires { length words.now < 2 ^ 32 }
+    ensures value { result ≡ 4 * length words.now }
+    ensures fits { AllByRecursion (λ word. word < 2 ^ 32) words.now }
+{
+    4 * words.len() as u64
 }
 
 fn symbols_of(
@@ -43,42 +79,34 @@ fn symbols_of(
     own: &Name,
     size: u64,
     names: &[Name],
-) -> Result<List<RelSymbol>, NoMemory> {
+) -> Result<List<RelSymbol>, NoMemory>
+    ensures value { IfOk result (λ symbols. symbols ≡ defined_symbol own.now size ∷ map other_symbol (others own.now names.now)) }
+    ensures fits { IfOk result (AllByRecursion SymbolFits) }
+{
     let mut symbols = Vec::new(alloc);
-    symbols.push(RelSymbol {
-        name: own.copy()?,
-        start: Some(0),
-        size,
-    })?;
+    symbols.push(defined(own, size)?)?;
     for name in names {
-        if name == own {
+        if own == name {
             continue;
         }
-        symbols.push(RelSymbol {
-            name: name.copy()?,
-            start: None,
-            size: 0,
-        })?;
+        symbols.push(undefined(name)?)?;
     }
     Ok(List::from_vec(symbols))
 }
 
-fn relocations_of(
-    alloc: Global,
-    own: Option<u32>,
-    relocations: &[Reloc],
-) -> Result<List<Reloc>, NoMemory>
+fn relocations_of(alloc: Global, own: u32, relocations: &[Reloc]) -> Result<List<Reloc>, NoMemory>
     requires { All (λ r. r.symbol < 2 ^ 32 - 1) relocations.now }
+    ensures { IfOk result (λ found. found ≡ map (placed own) relocations.now) }
 {
-    let mut placed = Vec::new(alloc);
+    let mut found = Vec::new(alloc);
     for reloc in relocations {
-        placed.push(Reloc {
+        found.push(Reloc {
             offset: reloc.offset,
             kind: reloc.kind,
             symbol: symbol_place(own, reloc.symbol),
         })?;
     }
-    Ok(List::from_vec(placed))
+    Ok(List::from_vec(found))
 }
 
 // The object of a version whose code is given.
@@ -87,15 +115,21 @@ fn object(
     version: &VersionedFunction,
     code: FunctionCode,
 ) -> Result<RelocObject, NoMemory>
+    requires versioned { IsVersioned version.now }
     requires words { code.words ≡ words_of_code version.now }
     requires names { code.names ≡ names_of_code version.now }
     requires relocations { code.relocations ≡ relocations_of_code version.now }
-    ensures { IfOk result (λ object. object ≡ object_of version.now) }
+    requires bound { 4 * length code.words ≤ bound_of version.now }
+    requires fills { relocs_from 0 code.words code.relocations ≡ true }
+    requires named { named_in_order 0 (length code.names) code.relocations ≡ true }
+    requires once { repeats code.names ≡ false }
+    ensures value { IfOk result (λ object. object ≡ object_of version.now) }
+    ensures part { IfOk result IsPart }
 {
     let names = code.names.as_slice();
     let own = own_place(&version.symbol, names);
-    let size = 4 * code.words.len() as u64;
-    let symbols = symbols_of(alloc, &version.symbol, size, names)?;
+    let words = code.words.as_slice();
+    let symbols = symbols_of(alloc, &version.symbol, byte_count(words), names)?;
     let relocations = relocations_of(alloc, own, code.relocations.as_slice())?;
     Ok(RelocObject {
         symbols,

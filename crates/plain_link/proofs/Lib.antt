@@ -1,0 +1,4 @@
+pub mod OwnFirst
+pub mod PartForm
+pub mod PartFrame
+pub mod PartLaws

@@ -7,4 +7,3 @@ pub mod Objects
 pub mod Forms
 pub mod ObjectReading
 pub mod Streamed
-pub mod Rows

@@ -23,11 +23,11 @@ mod symbol;
 mod symbols;
 mod writing;
 
-pub use bodies::{StoredBody, decode_bodies, encode_bodies};
 pub use fault::{ObjectError, ObjectFault};
 pub use object::Object;
 pub use reading::read_object;
-pub use summaries::{decode_summaries, encode_summaries};
 pub use symbol::Symbol;
-pub use symbols::{StoredSymbol, decode_symbols, encode_symbols};
 pub use writing::lgen;
+
+#[cfg(test)]
+mod tests;

@@ -28,6 +28,3 @@ pub use object::Object;
 pub use reading::read_object;
 pub use symbol::Symbol;
 pub use writing::lgen;
-
-#[cfg(test)]
-mod tests;

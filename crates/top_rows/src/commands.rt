@@ -101,9 +101,9 @@ fn rows(rt: HostRuntime) -> Result<(), Fail> {
             "int main () { int x; x = 1; return x; }",
             none,
             none,
-            13,
-            "13 unbuilt\n",
-            None,
+            0,
+            "",
+            Some(8192),
         ),
         ("cc h.g", TEXT, none, none, 2, "2 words\n", None),
         ("cc x o", TEXT, none, none, 5, "5 read x\n", None),
@@ -580,6 +580,29 @@ fn cuts(rt: HostRuntime) -> Result<(), Fail> {
         assert_eq!(rt; plain(alloc, &words, &mut files, &mut out), 3);
         let line = format!(in alloc; "3 object 0 Truncated {len}\n")?;
         assert_eq!(rt; out.taken(), line.as_bytes());
+    }
+    Ok(())
+}
+
+// The first row's object with each byte changed in turn: it is refused, or shown as a text whose object it is.
+#[test]
+fn changes(rt: HostRuntime) -> Result<(), Fail> {
+    let alloc = rt.alloc();
+    let show = words_of(alloc, "show h.o")?;
+    let lgen = words_of(alloc, "lgen t.g t.o")?;
+    let whole = object_files(alloc, TEXT, Change::Nothing, &[])?;
+    let object = Vec::from_slice(alloc, whole.held("h.o").unwrap_or(b""))?;
+    for (offset, byte) in object.iter().enumerate() {
+        let change = Change::Byte(offset, *byte ^ 0xff);
+        let mut files = object_files(alloc, TEXT, change, &[])?;
+        let mut out = MemorySink::new(Vec::new(alloc));
+        if plain(alloc, &show, &mut files, &mut out) == 3 {
+            continue;
+        }
+        let mut again = one_file(alloc, "t.g", out.taken(), &[])?;
+        let mut sink = MemorySink::new(Vec::new(alloc));
+        assert_eq!(rt; plain(alloc, &lgen, &mut again, &mut sink), 0);
+        assert_eq!(rt; again.held("t.o"), files.held("h.o"));
     }
     Ok(())
 }

@@ -1,7 +1,7 @@
 -- What a command came to: one lemma where it is refused, where its files are written, and where a write is cut short.
-use Rattle.std.proofs.Common.{◌≡◌, ◌≢◌, ℕ, List, [], ◌∷◌, Option, Some, None, Result, Ok, Err, refl, sym, inl, arith, ◌≤◌, length, subst}
+use Rattle.std.proofs.Common.{◌≡◌, ◌≢◌, ℕ, List, [], ◌∷◌, ◌⊎◌, Option, Some, None, Result, Ok, Err, refl, sym, ap, inl, inr, arith, ◌≤◌, length, subst}
 use Rattle.std.specs.Prelude.{IfSome, ◌++◌, codes, decimal}
-use Rattle.outer_files.specs.Outside.{Contents, WhereTold, Writes, WritesPrefix, Rose}
+use Rattle.outer_files.specs.Outside.{Contents, WhereTold, Writes, WritesPrefix, Rose, IsLonger}
 use Rattle.gimple_ir.specs.declared.types.Module.{Module}
 use Rattle.gimple_syntax.specs.declared.text.TextFault.{TextFault}
 use Rattle.gimple_syntax.specs.Reading.{read_of}
@@ -11,16 +11,17 @@ use Rattle.lto_object.specs.ObjectReading.{read_of as read_object_of}
 use Rattle.whopr_words.specs.Commands.{Spoken, Cc, Lgen, Show, Run}
 use Rattle.rv64_meaning.specs.Laws.{output_of}
 use Rattle.rv64_meaning.specs.Loading.{load_fault_of, run_of}
-use Rattle.follow_laws.specs.Follows.{Follows}
-use Rattle.first_form.specs.declared.form.FirstForm.{FirstForm}
-use Rattle.first_form.specs.Form.{Spells}
-use Rattle.first_form.specs.Compiled.{FollowsText, IsImageOf}
-use Rattle.first_form.specs.Source.{program_of}
-use Rattle.whopr_top.specs.Reads.{reads_of, AreHeld}
-use Rattle.whopr_top.specs.Lines.{line, text_line, object_line, outcome_line}
-use Rattle.whopr_top.specs.Judgements.{File, Judgement, Refuses, Gives, Judges, JudgesForm, JudgesText, lgen_by, show_by, run_by}
-use Rattle.whopr_top.specs.Outputs.{IsJudged, IsRefused, IsDone, IsCutShort, WritesAll, CutsShort, Faithful, IsFaithful, Refused, IsValid}
-use Rattle.whopr_top.specs.Answers.{Exactly}
+use Rattle.plain_link.specs.declared.fault.LimitFault.{LimitFault}
+use Rattle.plain_link.specs.declared.fault.LinkFault.{LinkFault}
+use Rattle.plain_link.specs.declared.fault.LinkFault.TheVariants.{Unbuilt, Limit}
+use Rattle.plain_link.specs.Linking.{link_of}
+use Rattle.first_form.specs.Form.{FirstForm, module_of}
+use Rattle.first_form.specs.Laws.{FirstFormFollows}
+use Rattle.whopr_top.specs.Reads.{reads_of, AreHeld, IsOverLimit}
+use Rattle.whopr_top.specs.Lines.{line, text_line, object_line, outcome_line, limit_line}
+use Rattle.whopr_top.specs.Judgements.{File, Judgement, Refuses, Gives, Judges, image_by, cc_by, lgen_by, show_by, run_by}
+use Rattle.whopr_top.specs.Outputs.{IsJudged, IsRefused, IsDone, IsCutShort, WritesAll, CutsShort, Faithful, FollowsForm, IsFaithful, Refused, IsTooLarge, IsValid}
+use Rattle.whopr_top.specs.Answers.{Exactly, IsLimitLine}
 use Rattle.whopr_top.specs.Attempts.{Judged}
 
 -- a store holds one list of contents
@@ -47,15 +48,8 @@ alike_self (Gives w x) = tt
 alike_to : (a b c : Judgement) → a ≡ c → b ≡ c → Alike a b
 alike_to a b c e f = subst (λ (x : Judgement). Alike x b) (sym e) (subst (λ (y : Judgement). Alike c y) (sym f) (alike_self c))
 
-alike_texts : (output text : List ℕ) (r : Result Module TextFault) (a b : Judgement) → JudgesText output text r a → JudgesText output text r b → Alike a b
-alike_texts output text (Err fault) a b h k = alike_to a b (Refuses 9 (text_line fault.line fault.kind)) h k
-alike_texts output text (Ok source) (Refuses s x) (Refuses t y) h k = grind (arith, h.0, k.0)
-alike_texts output text (Ok source) (Refuses s x) (Gives w y) h k = h.2 k.1.program k.1.spelled
-alike_texts output text (Ok source) (Gives w x) (Refuses t y) h k = k.2 h.1.program h.1.spelled
-alike_texts output text (Ok source) (Gives w x) (Gives v y) h k = tt
-
 alike : (command : Spoken) (cs : List (List ℕ)) (a b : Judgement) → Judges command cs a → Judges command cs b → Alike a b
-alike (Cc input output) (text ∷ []) a b h k = alike_texts output text (read_of text) a b h k
+alike (Cc input output) (text ∷ []) a b h k = alike_to a b (cc_by output (read_of text)) h k
 alike (Lgen input output) (text ∷ []) a b h k = alike_to a b (lgen_by output (read_of text)) h k
 alike (Show object) (bytes ∷ []) a b h k = alike_to a b (show_by (read_object_of bytes)) h k
 alike (Run image steps input output) (bytes ∷ given ∷ []) a b h k = alike_to a b (run_by output (load_fault_of bytes) (run_of bytes given steps)) h k
@@ -82,6 +76,36 @@ exactly_other limit held command cs s n w x differs read judged = record {
   only = λ is. absurd (differs is);
   always = λ other. absurd (held_alike limit held command cs other.1.contents (Gives w x) (Refuses n other.0) read other.1.read judged other.1.judged);
 }
+
+not_long : (limit : ℕ) (file : Option (List ℕ)) (bytes : List ℕ) → file ≡ Some bytes → length bytes ≤ limit → IsLonger limit file → ⊥
+not_long limit None bytes is within long = absurd long
+not_long limit (Some other) bytes is within long = grind (arith, is, within, long)
+
+-- files that are held within the limit are not too long
+not_over : (limit : ℕ) (held : Contents) (names : List (List ℕ)) (cs : List (List ℕ)) → AreHeld limit held names cs → IsOverLimit limit held names → ⊥
+not_over limit held [] cs read over = absurd over
+not_over limit held (name ∷ names) [] read over = absurd read
+not_over limit held (name ∷ names) (c ∷ cs) read (inl long) = not_long limit (held name) c read.0 read.1 long
+not_over limit held (name ∷ names) (c ∷ cs) read (inr more) = not_over limit held names cs read.2 more.1
+
+too_large : (limit : ℕ) (held : Contents) (command : Spoken) (cs : List (List ℕ)) (A B : Type 0) → AreHeld limit held (reads_of command) cs
+    → IsTooLarge limit held (Some command) → (Refused 4 limit held (Some command) → A ⊎ B) → A ⊎ B
+too_large limit held command cs A B read (inl over) or = absurd (not_over limit held (reads_of command) cs read over)
+too_large limit held command cs A B read (inr refused) or = or refused
+
+-- a command that is refused with a status is too large exactly where that is 4
+exactly_limited : (limit : ℕ) (held : Contents) (command : Spoken) (cs : List (List ℕ)) (s : ℕ) (x : List ℕ) → AreHeld limit held (reads_of command) cs
+    → Judges command cs (Refuses s x) → Exactly 4 s (IsTooLarge limit held (Some command))
+exactly_limited limit held command cs s x read judged =
+    let exact = exactly_refused limit held command cs s 4 x read judged in
+    record { only = λ is. inr (exact.only is); always = λ large. too_large limit held command cs (s ≡ 4) (s ≡ 7) read large exact.always }
+
+-- a command that gives something is not too large
+exactly_within : (limit : ℕ) (held : Contents) (command : Spoken) (cs : List (List ℕ)) (s : ℕ) (w : List File) (x : List ℕ) → s ≢ 4 → AreHeld limit held (reads_of command) cs
+    → Judges command cs (Gives w x) → Exactly 4 s (IsTooLarge limit held (Some command))
+exactly_within limit held command cs s w x differs read judged =
+    let exact = exactly_other limit held command cs s 4 w x differs read judged in
+    record { only = λ is. absurd (differs is); always = λ large. too_large limit held command cs (s ≡ 4) (s ≡ 7) read large exact.always }
 
 held_refused : (limit : ℕ) (held : Contents) (command : Spoken) (cs : List (List ℕ)) (s : ℕ) (x : List ℕ) → AreHeld limit held (reads_of command) cs
     → Judges command cs (Refuses s x) → IsValid limit held (Some command) → ⊥
@@ -142,36 +166,38 @@ the_one old new name bytes (between, writes, same) = subst (λ (c : Contents). W
 
 -- ---- the image of a text that was compiled
 
-given_form : (output text : List ℕ) (r : Result Module TextFault) (w : List File) (x : List ℕ) → JudgesText output text r (Gives w x) → JudgesForm output text (Gives w x)
-given_form output text (Ok source) w x h = h
-given_form output text (Err fault) w x h = absurd (alike_to (Gives w x) (Refuses 9 (text_line fault.line fault.kind)) (Refuses 9 (text_line fault.line fault.kind)) h refl)
+written_of : Judgement → List File
+written_of (Refuses s x) = []
+written_of (Gives w x) = w
 
-follows_it : (text image : List ℕ) (form : FirstForm) → FollowsText text image → Spells text form → Follows image (program_of form)
-unfolding FollowsText
-follows_it text image form each spelled = each form spelled
+image_given : (output : List ℕ) (linked : Result (List ℕ) LinkFault) (w : List File) (x : List ℕ) → Gives w x ≡ image_by output linked
+    → (image : List ℕ) × (linked ≡ Ok image) × (w ≡ (output, image) ∷ [])
+image_given output (Ok image) w x h = (image, refl, ap written_of h)
+image_given output (Err Unbuilt) w x h = absurd (alike_to (Gives w x) (image_by output (Err Unbuilt)) (image_by output (Err Unbuilt)) h refl)
+image_given output (Err (Limit passed)) w x h = absurd (alike_to (Gives w x) (image_by output (Err (Limit passed))) (image_by output (Err (Limit passed))) h refl)
 
-faithful_text : (limit : ℕ) (input output text : List ℕ) (old new : Contents) (w : List File) (x : List ℕ) → old input ≡ Some text
-    → JudgesForm output text (Gives w x) → WritesAll w old new → IsFaithful input output old new
-faithful_text limit input output text old new w x held (image, is_image, one, none) writes = record {
-  text = text;
-  image = image;
-  form = is_image.program;
-  held = held;
-  spelled = is_image.spelled;
-  written = (the_one old new output image (subst (λ (files : List File). WritesAll files old new) one writes)).written;
-  loads = is_image.loads;
-  follows = follows_it text image is_image.program is_image.follows is_image.spelled;
-}
+-- the module, and its image
+source_given : (output : List ℕ) (r : Result Module TextFault) (w : List File) (x : List ℕ) → Gives w x ≡ cc_by output r
+    → (source : Module) × (image : List ℕ) × (r ≡ Ok source) × (link_of source ≡ Ok image) × (w ≡ (output, image) ∷ [])
+source_given output (Err fault) w x h = absurd (alike_to (Gives w x) (cc_by output (Err fault)) (cc_by output (Err fault)) h refl)
+source_given output (Ok source) w x h = let given = image_given output (link_of source) w x h in (source, given.0, refl, given.1, given.2)
 
-faithful : (limit : ℕ) (command : Spoken) (old new : Contents) (w : List File) (x : List ℕ) (cs : List (List ℕ)) → AreHeld limit old (reads_of command) cs
-    → Judges command cs (Gives w x) → WritesAll w old new → Faithful (Some command) old new
-faithful limit (Cc input output) old new w x [] read judged writes = absurd read
-faithful limit (Cc input output) old new w x (text ∷ []) read judged writes =
-    faithful_text limit input output text old new w x read.0 (given_form output text (read_of text) w x judged) writes
-faithful limit (Cc input output) old new w x (text ∷ other ∷ more) read judged writes = absurd read.2
-faithful limit (Lgen input output) old new w x cs read judged writes = tt
-faithful limit (Show object) old new w x cs read judged writes = tt
-faithful limit (Run image steps input output) old new w x cs read judged writes = tt
+follows_form : FirstFormFollows → (source : Module) (image : List ℕ) → link_of source ≡ Ok image → FollowsForm source image
+follows_form law source image linked form is same = law form is image (subst (λ (m : Module). link_of m ≡ Ok image) same linked)
+
+pub faithful : FirstFormFollows → (limit : ℕ) (input output text : List ℕ) (w : List File) (x : List ℕ) → Gives w x ≡ cc_by output (read_of text)
+    → (old new : Contents) → AreHeld limit old (input ∷ []) (text ∷ []) → WritesAll w old new → IsFaithful input output old new
+faithful law limit input output text w x judged old new read writes =
+    let given = source_given output (read_of text) w x judged in
+    record {
+      text = text;
+      image = given.1;
+      source = given.0;
+      held = read.0;
+      read = given.2;
+      written = (the_one old new output given.1 (subst (λ (files : List File). WritesAll files old new) given.4 writes)).written;
+      follows = follows_form law given.0 given.1 given.3;
+    }
 
 -- ---- what the command came to
 
@@ -181,6 +207,7 @@ refused limit command old new before now s x cs not_0 not_6 read judged =
     let at = λ (held : Contents) (told : old ≡ Some held). told_at (λ held. AreHeld limit held (reads_of command) cs) old held read told in
     record {
       object = λ held told _. exactly_refused limit held command cs s 3 x (at held told) judged;
+      large = λ held told _. exactly_limited limit held command cs s x (at held told) judged;
       spelled = λ held told _. exactly_refused limit held command cs s 9 x (at held told) judged;
       image = λ held told _. exactly_refused limit held command cs s 11 x (at held told) judged;
       unbuilt = λ held told _. exactly_refused limit held command cs s 13 x (at held told) judged;
@@ -189,17 +216,21 @@ refused limit command old new before now s x cs not_0 not_6 read judged =
       follows = λ is. absurd (not_0 is);
       cut_short = λ is. absurd (not_6 is);
       done_line = λ is. absurd (not_0 is);
+      large_line = λ is. told_map (λ held. AreHeld limit held (reads_of command) cs) (λ held. IsLimitLine limit held command x) old
+          (λ held h. inr (record { contents = cs; read = h; judged = subst (λ (n : ℕ). Judges command cs (Refuses n x)) is judged })) read;
       refused_line = λ _. told_map (λ held. AreHeld limit held (reads_of command) cs) (λ held. IsRefused limit command held s x) old (λ held h. record { contents = cs; read = h; judged = judged }) read;
     }
 
 pub done : (limit : ℕ) (command : Spoken) (old between new : Option Contents) (before now : ℕ) (w : List File) (x : List ℕ) (cs : List (List ℕ)) → between ≡ old
     → IfSome old (λ held. AreHeld limit held (reads_of command) cs) → Judges command cs (Gives w x) → WhereTold between new (WritesAll w)
+    → ((held then : Contents) → AreHeld limit held (reads_of command) cs → WritesAll w held then → Faithful (Some command) held then)
     → Judged limit (Some command) old new before now 0 x
-done limit command old between new before now w x cs same read judged writes =
+done limit command old between new before now w x cs same read judged writes follows =
     let at = λ (held : Contents) (told : old ≡ Some held). told_at (λ held. AreHeld limit held (reads_of command) cs) old held read told in
     let then = subst (λ (o : Option Contents). WhereTold o new (WritesAll w)) same writes in
     record {
       object = λ held told _. exactly_other limit held command cs 0 3 w x (λ is. grind (arith, is)) (at held told) judged;
+      large = λ held told _. exactly_within limit held command cs 0 w x (λ is. grind (arith, is)) (at held told) judged;
       spelled = λ held told _. exactly_other limit held command cs 0 9 w x (λ is. grind (arith, is)) (at held told) judged;
       image = λ held told _. exactly_other limit held command cs 0 11 w x (λ is. grind (arith, is)) (at held told) judged;
       unbuilt = λ held told _. exactly_other limit held command cs 0 13 w x (λ is. grind (arith, is)) (at held told) judged;
@@ -207,9 +238,10 @@ done limit command old between new before now w x cs same read judged writes =
       done = λ _. told_with (λ held. AreHeld limit held (reads_of command) cs) (WritesAll w) (IsDone limit command) old new
           (λ held then h write. record { written = w; text = x; judged = record { contents = cs; read = h; judged = judged }; writes = write }) read then;
       follows = λ _. told_with (λ held. AreHeld limit held (reads_of command) cs) (WritesAll w) (Faithful (Some command)) old new
-          (λ held then h write. faithful limit command held then w x cs h judged write) read then;
+          (λ held then h write. follows held then h write) read then;
       cut_short = λ is. grind (arith, is);
       done_line = λ _. told_map (λ held. AreHeld limit held (reads_of command) cs) (λ held. (written : List File) × IsJudged limit command held written x) old (λ held h. (w, record { contents = cs; read = h; judged = judged })) read;
+      large_line = λ is. grind (arith, is);
       refused_line = λ is. grind (arith, is);
     }
 
@@ -220,6 +252,7 @@ cut_short limit command old between new before now w x y cs same read judged wri
     let at = λ (held : Contents) (told : old ≡ Some held). told_at (λ held. AreHeld limit held (reads_of command) cs) old held read told in
     record {
       object = λ held told _. exactly_other limit held command cs 6 3 w x (λ is. grind (arith, is)) (at held told) judged;
+      large = λ held told _. exactly_within limit held command cs 6 w x (λ is. grind (arith, is)) (at held told) judged;
       spelled = λ held told _. exactly_other limit held command cs 6 9 w x (λ is. grind (arith, is)) (at held told) judged;
       image = λ held told _. exactly_other limit held command cs 6 11 w x (λ is. grind (arith, is)) (at held told) judged;
       unbuilt = λ held told _. exactly_other limit held command cs 6 13 w x (λ is. grind (arith, is)) (at held told) judged;
@@ -230,20 +263,22 @@ cut_short limit command old between new before now w x y cs same read judged wri
           (λ held then h write. record { written = w; text = x; judged = record { contents = cs; read = h; judged = judged }; writes = write })
           read (subst (λ (o : Option Contents). WhereTold o new (CutsShort w)) same writes);
       done_line = λ is. grind (arith, is);
+      large_line = λ is. grind (arith, is);
       refused_line = λ is. grind (arith, is);
     }
 
 -- ---- the judgement of `cc`
 
-pub text_faults : (output text : List ℕ) (fault : TextFault) → read_of text ≡ Err fault → JudgesText output text (read_of text) (Refuses 9 (text_line fault.line fault.kind))
-text_faults output text fault e = subst (λ (r : Result Module TextFault). JudgesText output text r (Refuses 9 (text_line fault.line fault.kind))) (sym e) refl
+pub cc_faults : (output text : List ℕ) (fault : TextFault) → read_of text ≡ Err fault → Refuses 9 (text_line fault.line fault.kind) ≡ cc_by output (read_of text)
+cc_faults output text fault e = rw e refl
 
-pub text_judged : (output text : List ℕ) (source : Module) (judgement : Judgement) → read_of text ≡ Ok source → JudgesForm output text judgement → JudgesText output text (read_of text) judgement
-text_judged output text source judgement e h = subst (λ (r : Result Module TextFault). JudgesText output text r judgement) (sym e) h
+pub cc_refuses : (output text : List ℕ) (source : Module) (fault : LinkFault) (judgement : Judgement) → read_of text ≡ Ok source → link_of source ≡ Err fault
+    → judgement ≡ image_by output (Err fault) → judgement ≡ cc_by output (read_of text)
+cc_refuses output text source fault judgement e linked is = rw (e, linked) is
 
-pub image_given : (output text image printed : List ℕ) (source : Module) → read_of text ≡ Ok source → IsImageOf text image → printed ≡ []
-    → JudgesText output text (read_of text) (Gives ((output, image) ∷ []) printed)
-image_given output text image printed source e is_image none = text_judged output text source (Gives ((output, image) ∷ []) printed) e (image, is_image, refl, none)
+pub cc_gives : (output text image printed : List ℕ) (source : Module) → read_of text ≡ Ok source → link_of source ≡ Ok image → printed ≡ []
+    → Gives ((output, image) ∷ []) printed ≡ cc_by output (read_of text)
+cc_gives output text image printed source e linked none = rw (e, linked, none) refl
 
 -- ---- the judgement of `lgen`
 

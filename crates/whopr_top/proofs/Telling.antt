@@ -3,21 +3,24 @@ use Rattle.std.proofs.Common.{◌≡◌, ◌≢◌, ℕ, List, [], ◌∷◌, Op
 use Rattle.std.specs.Prelude.{◌++◌, codes, decimal}
 use Rattle.outer_files.specs.Outside.{Contents, Known, Rose, RoseBy}
 use Rattle.whopr_words.specs.Commands.{Spoken}
-use Rattle.whopr_top.specs.Lines.{line, kind_word, object_word, object_place}
+use Rattle.rv64_meaning.specs.Machine.{Outcome, Running, Ended, Trapped}
+use Rattle.whopr_top.specs.Lines.{line, outcome_line, kind_word, object_word, object_place, quantity_word, spaced}
 use Rattle.whopr_top.specs.Answers.{Exactly, lines_of, IsQuiet, IsLine, PutsFault, PutsLine, after_fault, WasPut}
 use Rattle.whopr_top.specs.Attempts.{Lined, Judged}
 use Rattle.whopr_top.specs.Refusal.{Reports, Tells, refusal_line, status_of}
 use Rattle.whopr_top.specs.declared.refusal.Refusal.{Refusal}
-use Rattle.whopr_top.specs.declared.refusal.Refusal.TheVariants.{NoCommand, Object, TooLong, Read, Write, Memory, Text, Image, Unbuilt}
+use Rattle.whopr_top.specs.declared.refusal.Refusal.TheVariants.{NoCommand, Object, TooLong, Limit, Read, Write, Memory, Text, Image, Unbuilt}
 
 line_is : (limit : ℕ) (held new : Option Contents) (command : Option Spoken) (before now status : ℕ) (text : List ℕ) → Lined limit command held status text
     → Judged limit command held new before now status text → IsLine limit held command status text
 line_is limit held new command before now status text lined judged = record {
   done = judged.done_line;
   quiet = lined.quiet;
+  silent = lined.silent;
   words = lined.words;
   object = lined.object;
   over = lined.over;
+  limited = judged.large_line;
   read = lined.read;
   write = lined.write;
   memory = lined.memory;
@@ -31,9 +34,11 @@ memory_line : (limit : ℕ) (held : Option Contents) (command : Option Spoken) �
 memory_line limit held command = record {
   done = λ is. grind (arith, is);
   quiet = λ is. grind (arith, is);
+  silent = λ is. grind (arith, is);
   words = λ is. grind (arith, is);
   object = λ is. grind (arith, is);
   over = λ is. grind (arith, is);
+  limited = λ is. grind (arith, is);
   read = λ is. grind (arith, is);
   write = λ is. grind (arith, is);
   memory = λ is. refl;
@@ -52,6 +57,7 @@ pub not_done : (refusal : Refusal) → status_of refusal ≢ 0
 not_done NoCommand = λ is. grind (arith, is)
 not_done (Object number fault) = λ is. grind (arith, is)
 not_done TooLong = λ is. grind (arith, is)
+not_done (Limit passed) = λ is. grind (arith, is)
 not_done (Read name) = λ is. grind (arith, is)
 not_done (Write name) = λ is. grind (arith, is)
 not_done Memory = λ is. grind (arith, is)
@@ -70,12 +76,18 @@ pub refusal_is_some : (refusal : Refusal) → refusal_line refusal ≢ []
 refusal_is_some NoCommand = line_is_some (codes "2 words")
 refusal_is_some (Object number fault) = line_is_some (((codes "3 object " ++ (decimal number ++ codes " ")) ++ object_word fault) ++ object_place fault)
 refusal_is_some TooLong = line_is_some (codes "4 limit FileBytes 16777217 16777216")
+refusal_is_some (Limit passed) = line_is_some (((codes "4 limit " ++ quantity_word passed.quantity) ++ spaced (decimal passed.number)) ++ spaced (decimal passed.limit))
 refusal_is_some (Read name) = line_is_some (codes "5 read " ++ name.now)
 refusal_is_some (Write name) = line_is_some (codes "6 write " ++ name.now)
 refusal_is_some Memory = line_is_some (codes "7 memory")
 refusal_is_some (Text at kind) = line_is_some ((codes "9 text " ++ (decimal at ++ codes " ")) ++ kind_word kind)
 refusal_is_some (Image offset) = line_is_some (codes "11 image " ++ decimal offset)
 refusal_is_some Unbuilt = line_is_some (codes "13 unbuilt")
+
+pub outcome_is_some : (outcome : Outcome) → outcome_line outcome ≢ []
+outcome_is_some (Running output) = line_is_some (codes "running")
+outcome_is_some (Ended status output) = line_is_some (codes "ended " ++ decimal status)
+outcome_is_some (Trapped address output) = line_is_some (codes "trapped " ++ decimal address)
 
 -- ---- a refusal
 

@@ -4,9 +4,10 @@ use Rattle.std.specs.List.{list_any}
 use Rattle.outer_files.specs.Outside.{Contents, Known, TookPiece, FailedPiece, LackedMemory}
 use Rattle.gimple_syntax.specs.declared.text.TextKind.{TextKind}
 use Rattle.lto_object.specs.declared.fault.ObjectFault.{ObjectFault}
+use Rattle.plain_link.specs.declared.fault.LimitFault.{LimitFault}
 use Rattle.whopr_words.specs.Commands.{Spoken, Cc, Lgen, Show, Run}
-use Rattle.whopr_top.specs.Reads.{reads_of, MayWrite, IsReached}
-use Rattle.whopr_top.specs.Lines.{line, text_line, object_line}
+use Rattle.whopr_top.specs.Reads.{reads_of, MayWrite, IsOverLimit, IsReached}
+use Rattle.whopr_top.specs.Lines.{line, text_line, object_line, limit_line}
 use Rattle.whopr_top.specs.Judgements.{File}
 use Rattle.whopr_top.specs.Outputs.{IsJudged, IsRefused}
 
@@ -39,13 +40,31 @@ IsQuiet (Some (Lgen input output)) = Unit {0}
 IsQuiet (Some (Show object)) = ⊥
 IsQuiet (Some (Run image steps input output)) = ⊥
 
+-- the commands whose text may be empty when they were done: a module that declares nothing has an empty text
+abbrev pub CanBeSilent : Option Spoken → Type 0
+CanBeSilent None = ⊥
+CanBeSilent (Some (Cc input output)) = Unit {0}
+CanBeSilent (Some (Lgen input output)) = Unit {0}
+CanBeSilent (Some (Show object)) = Unit {0}
+CanBeSilent (Some (Run image steps input output)) = ⊥
+
+-- the line of a file that is too long
+abbrev pub file_bytes_line : List ℕ
+file_bytes_line = line (codes "4 limit FileBytes 16777217 16777216")
+
+-- the line of what is too large, by what the command reads: a file, or the program
+abbrev pub IsLimitLine : ℕ → Contents → Spoken → List ℕ → Type 0
+IsLimitLine limit held command text = (IsOverLimit limit held (reads_of command) × (text ≡ file_bytes_line)) ⊎ IsRefused limit command held 4 text
+
 -- The text that goes with a status, by what the command reads, where that is told.
 pub record IsLine (limit : ℕ) (held : Option Contents) (command : Option Spoken) (status : ℕ) (text : List ℕ) : Type 0 where
   pub done : status ≡ 0 → IfSome held (λ files. IsSomeAnd command (λ c. (written : List File) × IsJudged limit c files written text))
   pub quiet : status ≡ 0 → IsQuiet command → text ≡ []
+  pub silent : status ≡ 0 → text ≡ [] → CanBeSilent command
   pub words : status ≡ 2 → text ≡ line (codes "2 words")
   pub object : status ≡ 3 → (number : ℕ) × (fault : ObjectFault) × (text ≡ object_line number fault)
-  pub over : status ≡ 4 → text ≡ line (codes "4 limit FileBytes 16777217 16777216")
+  pub over : status ≡ 4 → (text ≡ file_bytes_line) ⊎ ((passed : LimitFault) × (text ≡ limit_line passed))
+  pub limited : status ≡ 4 → IfSome held (λ files. IsSomeAnd command (λ c. IsLimitLine limit files c text))
   pub read : status ≡ 5 → IsSomeAnd command (λ c. (name : List ℕ) × IfSome held (λ files. IsReached limit files (reads_of c) name) × (text ≡ line (codes "5 read " ++ name)))
   pub write : status ≡ 6 → IsSomeAnd command (λ c. (name : List ℕ) × MayWrite c name × (text ≡ line (codes "6 write " ++ name)))
   pub memory : status ≡ 7 → text ≡ line (codes "7 memory")

@@ -10,10 +10,11 @@ use Rattle.lto_object.specs.ObjectReading.{read_of as read_object_of}
 use Rattle.rv64_meaning.specs.Machine.{Outcome}
 use Rattle.rv64_meaning.specs.Laws.{output_of}
 use Rattle.rv64_meaning.specs.Loading.{load_fault_of, run_of}
-use Rattle.first_form.specs.Form.{IsUnbuilt}
-use Rattle.first_form.specs.Compiled.{IsImageOf}
+use Rattle.plain_link.specs.declared.fault.LinkFault.{LinkFault}
+use Rattle.plain_link.specs.declared.fault.LinkFault.TheVariants.{Unbuilt, Limit}
+use Rattle.plain_link.specs.Linking.{link_of}
 use Rattle.whopr_words.specs.Commands.{Spoken, Cc, Lgen, Show, Run}
-use Rattle.whopr_top.specs.Lines.{line, outcome_line, text_line, object_line}
+use Rattle.whopr_top.specs.Lines.{line, outcome_line, text_line, object_line, limit_line}
 
 -- a file that is written: its name and its bytes
 abbrev pub File : Type 0
@@ -25,15 +26,16 @@ pub data Judgement : Type 0 where
   -- it writes these files one after the other, and then prints this text, or nothing where that is empty
   Gives : (written : List File) (text : List ℕ) → Judgement
 
--- a text that spells a module is compiled, if it is of the first form
-abbrev pub JudgesForm : (output text : List ℕ) → Judgement → Type 0
-JudgesForm output text (Refuses status reason) = (status ≡ 13) × (reason ≡ line (codes "13 unbuilt")) × IsUnbuilt text
-JudgesForm output text (Gives written printed) = (image : List ℕ) × IsImageOf text image × (written ≡ (output, image) ∷ []) × (printed ≡ [])
+-- the image of a module, or why it has none
+abbrev pub image_by : List ℕ → Result (List ℕ) LinkFault → Judgement
+image_by output (Ok image) = Gives ((output, image) ∷ []) []
+image_by output (Err Unbuilt) = Refuses 13 (line (codes "13 unbuilt"))
+image_by output (Err (Limit passed)) = Refuses 4 (limit_line passed)
 
--- `cc`: the text is read to a module, or to its first fault
-abbrev pub JudgesText : (output text : List ℕ) → Result Module TextFault → Judgement → Type 0
-JudgesText output text (Ok source) judgement = JudgesForm output text judgement
-JudgesText output text (Err fault) judgement = judgement ≡ Refuses 9 (text_line fault.line fault.kind)
+-- `cc`: the image of the module that the text is read to
+abbrev pub cc_by : List ℕ → Result Module TextFault → Judgement
+cc_by output (Ok source) = image_by output (link_of source)
+cc_by output (Err fault) = Refuses 9 (text_line fault.line fault.kind)
 
 -- `lgen`: the object of the module that the text is read to
 abbrev pub lgen_by : List ℕ → Result Module TextFault → Judgement
@@ -51,7 +53,7 @@ run_by output (Some offset) outcome = Refuses 11 (line (codes "11 image " ++ dec
 run_by output None outcome = Gives ((output, output_of outcome) ∷ []) (outcome_line outcome)
 
 abbrev pub Judges : Spoken → List (List ℕ) → Judgement → Type 0
-Judges (Cc input output) (text ∷ []) judgement = JudgesText output text (read_of text) judgement
+Judges (Cc input output) (text ∷ []) judgement = judgement ≡ cc_by output (read_of text)
 Judges (Lgen input output) (text ∷ []) judgement = judgement ≡ lgen_by output (read_of text)
 Judges (Show object) (bytes ∷ []) judgement = judgement ≡ show_by (read_object_of bytes)
 Judges (Run image steps input output) (bytes ∷ given ∷ []) judgement = judgement ≡ run_by output (load_fault_of bytes) (run_of bytes given steps)

@@ -1,4 +1,4 @@
--- The lines that commands print: how a machine stands, the fault of a text, the fault of an object.
+-- The lines that commands print: how a machine stands, the fault of a text, the fault of an object, a limit that is passed.
 use Rattle.std.specs.Prelude.{ℕ, List, [], ◌∷◌, ◌++◌, codes, decimal}
 use Rattle.gimple_ir.specs.declared.fault.TypeKind.{TypeKind}
 use Rattle.gimple_ir.specs.declared.fault.TypeKind.TheVariants.{DoubleName, UnknownName, TooMany, BadLabel, OpenEnd, WrongCount, WrongType, NegLiteral, BadCase}
@@ -6,6 +6,9 @@ use Rattle.gimple_syntax.specs.declared.text.TextKind.{TextKind}
 use Rattle.gimple_syntax.specs.declared.text.TextKind.TheVariants.{Byte, Syntax, Literal, Check}
 use Rattle.lto_object.specs.declared.fault.ObjectFault.{ObjectFault}
 use Rattle.lto_object.specs.declared.fault.ObjectFault.TheVariants.{NotElf, WrongClass, WrongMachine, Truncated, MissingSection, DoubleSection, Compressed, BadVersion, BadStream, Trailing, TypeFault, SummaryDiffers, SymbolsDiffer, BadLayout}
+use Rattle.plain_link.specs.declared.fault.LimitFault.{LimitFault}
+use Rattle.plain_link.specs.declared.fault.Quantity.{Quantity}
+use Rattle.plain_link.specs.declared.fault.Quantity.TheVariants.{LinkFunctions, LinkCode, LinkData}
 use Rattle.rv64_meaning.specs.Machine.{Outcome, Running, Ended, Trapped}
 
 abbrev pub line : List ℕ → List ℕ
@@ -80,3 +83,13 @@ object_place (BadLayout offset) = spaced (decimal offset)
 -- the line of the fault of the object with this number
 abbrev pub object_line : ℕ → ObjectFault → List ℕ
 object_line number fault = line (((codes "3 object " ++ (decimal number ++ codes " ")) ++ object_word fault) ++ object_place fault)
+
+-- the word of what has a limit
+abbrev pub quantity_word : Quantity → List ℕ
+quantity_word LinkFunctions = codes "LinkFunctions"
+quantity_word LinkCode = codes "LinkCode"
+quantity_word LinkData = codes "LinkData"
+
+-- the line of a number above its limit
+abbrev pub limit_line : LimitFault → List ℕ
+limit_line passed = line (((codes "4 limit " ++ quantity_word passed.quantity) ++ spaced (decimal passed.number)) ++ spaced (decimal passed.limit))

@@ -1,13 +1,13 @@
 -- What the files hold after a command, by what it read.
-use Rattle.std.specs.Prelude.{◌≡◌, ℕ, ◌⊎◌, List, [], ◌∷◌, Option, Some, IsSomeAnd}
+use Rattle.std.specs.Prelude.{◌≡◌, ℕ, ◌⊎◌, List, [], ◌∷◌, Option, Some, IsSomeAnd, Ok}
 use Rattle.outer_files.specs.Outside.{Contents, Writes, WritesPrefix}
 use Rattle.follow_laws.specs.Follows.{Follows}
-use Rattle.first_form.specs.declared.form.FirstForm.{FirstForm}
-use Rattle.first_form.specs.Form.{Spells}
-use Rattle.first_form.specs.Compiled.{IsLoadable}
-use Rattle.first_form.specs.Source.{program_of}
+use Rattle.gimple_ir.specs.declared.types.Module.{Module}
+use Rattle.gimple_syntax.specs.Reading.{read_of}
+use Rattle.first_form.specs.Form.{FirstForm, IsFirstForm, module_of, program_of}
+use Rattle.first_form.specs.Laws.{IsLoadable}
 use Rattle.whopr_words.specs.Commands.{Spoken, Cc}
-use Rattle.whopr_top.specs.Reads.{reads_of, AreHeld}
+use Rattle.whopr_top.specs.Reads.{reads_of, AreHeld, IsOverLimit}
 use Rattle.whopr_top.specs.Judgements.{File, Refuses, Gives, Judges}
 
 -- ---- writes
@@ -38,17 +38,19 @@ pub record IsDone (limit : ℕ) (command : Spoken) (old new : Contents) : Type 0
   pub judged : IsJudged limit command old written text
   pub writes : WritesAll written old new
 
--- the text that is held as IN is spelled in the first form, and OUT holds an image that can be loaded and that does, on every
--- input, what the program of the text does
+-- an image of a module: where the module is of the first form, it can be loaded, and does on every input what the program does
+abbrev pub FollowsForm : Module → List ℕ → Type 0
+FollowsForm source image = (form : FirstForm) → IsFirstForm form → source ≡ module_of form → IsLoadable image × Follows image (program_of form)
+
+-- the text that is held as IN is read to a module, and OUT holds an image that follows it
 pub record IsFaithful (input output : List ℕ) (old new : Contents) : Type 0 where
   pub text : List ℕ
   pub image : List ℕ
-  pub form : FirstForm
+  pub source : Module
   pub held : old input ≡ Some text
-  pub spelled : Spells text form
+  pub read : read_of text ≡ Ok source
   pub written : new output ≡ Some image
-  pub loads : IsLoadable image
-  pub follows : Follows image (program_of form)
+  pub follows : FollowsForm source image
 
 -- the image of each text that was compiled follows its program
 abbrev pub Faithful : Option Spoken → Contents → Contents → Type 0
@@ -76,6 +78,10 @@ pub record IsRefused (limit : ℕ) (command : Spoken) (held : Contents) (status 
 
 abbrev pub Refused : ℕ → ℕ → Contents → Option Spoken → Type 0
 Refused status limit held command = IsSomeAnd command (λ c. (text : List ℕ) × IsRefused limit c held status text)
+
+-- a file that is read is too long, or the program passes a limit
+abbrev pub IsTooLarge : ℕ → Contents → Option Spoken → Type 0
+IsTooLarge limit held command = IsSomeAnd command (λ c. IsOverLimit limit held (reads_of c)) ⊎ Refused 4 limit held command
 
 -- the command is one that nothing that is held keeps from being done
 abbrev pub IsValid : ℕ → Contents → Option Spoken → Type 0

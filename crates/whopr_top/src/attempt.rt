@@ -5,14 +5,15 @@ ghost use Rattle.whopr_top.specs.Answers.{IsQuiet};
 ghost use Rattle.whopr_top.specs.Attempts.{Attempt, Counted, Lined, Judged};
 ghost use Rattle.whopr_top.specs.Refusal.{answer_of, text_of};
 
-use crate::objects::{object_of, shown};
+use crate::objects::{image_of, object_of, shown};
 use crate::refusal::Refusal;
 use crate::running::run_image;
 use crate::top::FILE_BYTES;
-use first_form::{FormFault, compile};
+use first_form::first_form_follows;
 use gimple_syntax::{TextError, read_module};
 use lto_object::ObjectError;
 use outer_files::{FileStore, ReadFault, WriteFault};
+use plain_link::{LinkError, LinkFault};
 use rv64_meaning::LoadError;
 use std::alloc::Global;
 use whopr_words::{Command, read_words};
@@ -64,16 +65,18 @@ fn cc<'a, F: FileStore>(
         Err(ReadFault::TooLong) => return Err(Refusal::TooLong),
         Err(ReadFault::NoMemory) => return Err(Refusal::Memory),
     };
-    let _source = match read_module(alloc, &text) {
+    let source = match read_module(alloc, &text) {
         Ok(source) => source,
         Err(TextError::Fault(fault)) => return Err(Refusal::Text(fault.line, fault.kind)),
         Err(TextError::NoMemory) => return Err(Refusal::Memory),
     };
-    let image = match compile(alloc, &text) {
+    let image = match image_of(alloc, &text, &source) {
         Ok(image) => image,
-        Err(FormFault::NotOfForm) => return Err(Refusal::Unbuilt),
-        Err(FormFault::NoMemory) => return Err(Refusal::Memory),
+        Err(LinkError::Fault(LinkFault::Unbuilt)) => return Err(Refusal::Unbuilt),
+        Err(LinkError::Fault(LinkFault::Limit(passed))) => return Err(Refusal::Limit(passed)),
+        Err(LinkError::NoMemory) => return Err(Refusal::Memory),
     };
+    first_form_follows();
     match files.write_all(out, &image) {
         Ok(()) => Ok(Vec::new(alloc)),
         Err(WriteFault::Failed) => Err(Refusal::Write(out)),

@@ -1,11 +1,12 @@
 // The lines that commands print.
 ghost use Rattle.std.specs.Prelude.{◌≡◌, ◌++◌, IfOk, OnOk, [], string_bytes, decimal};
 ghost use Rattle.rv64_meaning.specs.Standings.{outcome_by};
-ghost use Rattle.whopr_top.specs.Lines.{outcome_line, check_word, kind_word, text_line, object_word, object_place, object_line, spaced};
+ghost use Rattle.whopr_top.specs.Lines.{outcome_line, check_word, kind_word, text_line, object_word, object_place, object_line, quantity_word, limit_line, spaced};
 
 use gimple_ir::{TypeFault, TypeKind};
 use gimple_syntax::TextKind;
 use lto_object::ObjectFault;
+use plain_link::{LimitFault, Quantity};
 use rv64_meaning::MachineState;
 use std::alloc::{AllocError, Global};
 
@@ -127,6 +128,28 @@ pub fn object_line(alloc: Global, number: u32, fault: &ObjectFault) -> Result<St
     let mut text = format!(in alloc; "3 object {number} ")?;
     text.push_str(object_word(fault))?;
     push_place(alloc, &mut text, fault)?;
+    text.push_str("\n")?;
+    Ok(text)
+}
+
+fn quantity_word(quantity: Quantity) -> &'static str
+    ensures { result.now ≡ quantity_word quantity }
+{
+    match quantity {
+        Quantity::LinkFunctions => "LinkFunctions",
+        Quantity::LinkCode => "LinkCode",
+        Quantity::LinkData => "LinkData",
+    }
+}
+
+/// The line of a limit that is passed.
+pub fn limit_line(alloc: Global, passed: LimitFault) -> Result<String, AllocError>
+    ensures { IfOk result (λ line. string_bytes line ≡ limit_line passed) }
+{
+    let mut text = String::from_str(alloc, "4 limit ")?;
+    text.push_str(quantity_word(passed.quantity))?;
+    push_number(alloc, &mut text, passed.number)?;
+    push_number(alloc, &mut text, passed.limit)?;
     text.push_str("\n")?;
     Ok(text)
 }

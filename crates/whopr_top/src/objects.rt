@@ -1,13 +1,15 @@
-// The object of a text, and the text of an object.
+// The object and the image of a text, and the text of an object.
 ghost use Rattle.std.specs.Prelude.{◌≡◌, ◌<◌, ◌≤◌, ◌-◌, ◌^◌, [], length, IfOk, IfErr};
 ghost use Rattle.gimple_syntax.specs.Reading.{SpellsModule};
 ghost use Rattle.lto_object.specs.Objects.{object_of as object_bytes};
 ghost use Rattle.lto_object.specs.ObjectReading.{read_of, Fails};
+ghost use Rattle.plain_link.specs.Linking.{link_of, Links};
 ghost use Rattle.whopr_top.specs.Judgements.{Gives, show_by};
 
 use gimple_ir::{Module, NoMemory};
 use gimple_print::print_module;
 use lto_object::{ObjectError, lgen, read_object};
+use plain_link::{LinkError, link_module};
 use std::alloc::Global;
 use text_laws::read_is_checked;
 
@@ -19,6 +21,27 @@ pub fn object_of(alloc: Global, text: &[u8], source: &Module) -> Result<Vec<u8>,
 {
     read_is_checked();
     lgen(alloc, source)
+}
+
+// The most bytes of an object that can be read.
+const OBJECT_BYTES: usize = (1 << 32) - 2;
+
+/// The image of a module that a text spells, by way of its object.
+pub fn image_of(alloc: Global, text: &[u8], source: &Module) -> Result<Vec<u8>, LinkError>
+    requires short { length text.now < 2 ^ 32 - 1 }
+    requires spelled { SpellsModule text.now source.now }
+    ensures { Links result (link_of source.now) }
+{
+    read_is_checked();
+    let bytes = lgen(alloc, source)?;
+    if bytes.len() > OBJECT_BYTES {
+        return link_module(alloc, source);
+    }
+    match read_object(alloc, &bytes) {
+        Ok(object) => link_module(alloc, object.module()),
+        Err(ObjectError::Fault(_)) => unreachable!(),
+        Err(ObjectError::NoMemory) => Err(LinkError::NoMemory),
+    }
 }
 
 /// The canonical text of an object's module.

@@ -2,9 +2,10 @@
 ghost use Rattle.std.specs.Prelude.{◌≡◌, IfOk, string_bytes};
 ghost use Rattle.whopr_top.specs.Refusal.{status_of, refusal_line};
 
-use crate::lines::{object_line, text_line};
+use crate::lines::{limit_line, object_line, text_line};
 use gimple_syntax::TextKind;
 use lto_object::ObjectFault;
+use plain_link::LimitFault;
 use std::alloc::{AllocError, Global};
 
 /// Why a command was refused. One variant a status.
@@ -16,6 +17,8 @@ pub enum Refusal<'a> {
     Object(u32, ObjectFault),
     /// 4: a file that is read is longer than 16 MiB.
     TooLong,
+    /// 4: the program passes a limit; the first.
+    Limit(LimitFault),
     /// 5: this file could not be read.
     Read(&'a str),
     /// 6: this file could not be written.
@@ -26,7 +29,7 @@ pub enum Refusal<'a> {
     Text(u32, TextKind),
     /// 11: the image has its first fault at this byte.
     Image(u64),
-    /// 13: the text is none that is compiled so far.
+    /// 13: the module is no whole program by itself.
     Unbuilt,
 }
 
@@ -38,7 +41,7 @@ impl Refusal<'_> {
         match self {
             Refusal::NoCommand => 2,
             Refusal::Object(_, _) => 3,
-            Refusal::TooLong => 4,
+            Refusal::TooLong | Refusal::Limit(_) => 4,
             Refusal::Read(_) => 5,
             Refusal::Write(_) => 6,
             Refusal::Memory => 7,
@@ -57,6 +60,7 @@ pub fn refusal_line(alloc: Global, refusal: Refusal<'_>) -> Result<String, Alloc
         Refusal::NoCommand => format!(in alloc; "2 words\n"),
         Refusal::Object(number, fault) => object_line(alloc, number, &fault),
         Refusal::TooLong => format!(in alloc; "4 limit FileBytes 16777217 16777216\n"),
+        Refusal::Limit(passed) => limit_line(alloc, passed),
         Refusal::Read(name) => format!(in alloc; "5 read {name}\n"),
         Refusal::Write(name) => format!(in alloc; "6 write {name}\n"),
         Refusal::Memory => format!(in alloc; "7 memory\n"),

@@ -3,8 +3,8 @@ ghost use Rattle.std.specs.Prelude.{◌≡◌, ◌≢◌, ◌⊎◌, IsTrue, IsS
 ghost use Rattle.std.specs.Option.{ForSome};
 ghost use Rattle.outer_files.specs.Outside.{WhereTold, Rose, RoseBy};
 ghost use Rattle.whopr_words.specs.Commands.{words_of, command_of};
-ghost use Rattle.whopr_top.specs.Reads.{reads_of, IsOverLimit, IsAbsent};
-ghost use Rattle.whopr_top.specs.Outputs.{Done, Faithful, CutShort, Refused, IsValid};
+ghost use Rattle.whopr_top.specs.Reads.{reads_of, IsAbsent};
+ghost use Rattle.whopr_top.specs.Outputs.{Done, Faithful, CutShort, Refused, IsTooLarge, IsValid};
 ghost use Rattle.whopr_top.specs.Answers.{Exactly, is_status, is_early, lines_of, IsQuiet, PutsLine};
 
 use crate::attempt::attempt;
@@ -17,7 +17,7 @@ pub const FILE_BYTES: u64 = 16 << 20;
 
 /// Does one command and answers its status; the words do not hold the program's name. So far there are
 ///
-/// - `cc IN OUT`, which compiles the text IN to the image OUT and prints nothing;
+/// - `cc IN OUT`, which compiles the text IN, a whole program by itself, to the image OUT and prints nothing;
 /// - `lgen IN OUT`, which writes the object of the text IN to OUT and prints nothing;
 /// - `show OBJ`, which prints the canonical text of the module of the object OBJ and writes nothing;
 /// - `run IMAGE STEPS INPUT OUT`, which runs the image for at most STEPS steps on the bytes of INPUT, writes its output to OUT,
@@ -28,13 +28,13 @@ pub const FILE_BYTES: u64 = 16 << 20;
 /// | 0 | | the command was done |
 /// | 2 | `2 words` | the words are no command |
 /// | 3 | `3 object 0 KIND ..` | the object has a fault; its first, and where it is |
-/// | 4 | `4 limit FileBytes 16777217 16777216` | a file that is read has more than 16 MiB |
+/// | 4 | `4 limit QUANTITY NUMBER LIMIT` | a file that is read has more than 16 MiB (FileBytes), or the program has too many functions, too much code or too large arrays |
 /// | 5 | `5 read NAME` | the file could not be read |
 /// | 6 | `6 write NAME` | the file could not be written; `-` is the sink |
 /// | 7 | `7 memory` | there was no memory |
 /// | 9 | `9 text LINE KIND` | the text is outside the grammar or the checks; its first fault is in this line |
 /// | 11 | `11 image OFFSET` | the image can't be loaded; its first fault is at this byte |
-/// | 13 | `13 unbuilt` | the module is none that is compiled so far |
+/// | 13 | `13 unbuilt` | a statement names a declaration, or there is no `int main ()` that is strong or weak |
 pub fn plain<F: FileStore, K: Sink>(
     alloc: Global,
     words: &[String],
@@ -45,7 +45,7 @@ pub fn plain<F: FileStore, K: Sink>(
     ensures answers { IsTrue (is_status result) }
     ensures words { Exactly 2 result ((command_of (words_of words.now)) ≡ None) }
     ensures object { ForSome (F.held files.old) (λ held. result ≢ 5 → Exactly 3 result (Refused 3 FILE_BYTES held (command_of (words_of words.now)))) }
-    ensures limit { ForSome (F.held files.old) (λ held. result ≢ 5 → Exactly 4 result (IsSomeAnd (command_of (words_of words.now)) (λ c. IsOverLimit FILE_BYTES held (reads_of c)))) }
+    ensures limit { ForSome (F.held files.old) (λ held. result ≢ 5 → Exactly 4 result (IsTooLarge FILE_BYTES held (command_of (words_of words.now)))) }
     ensures absent { ForSome (F.held files.old) (λ held. IsSomeAnd (command_of (words_of words.now)) (λ c. IsAbsent FILE_BYTES held (reads_of c)) → (result ≡ 5) ⊎ (result ≡ 7)) }
     ensures text { ForSome (F.held files.old) (λ held. result ≢ 5 → Exactly 9 result (Refused 9 FILE_BYTES held (command_of (words_of words.now)))) }
     ensures image { ForSome (F.held files.old) (λ held. result ≢ 5 → Exactly 11 result (Refused 11 FILE_BYTES held (command_of (words_of words.now)))) }
@@ -59,7 +59,7 @@ pub fn plain<F: FileStore, K: Sink>(
     ensures complete { ForSome (F.held files.old) (λ held. IsValid FILE_BYTES held (command_of (words_of words.now))
         → ¬ Rose (F.faults files.old) (F.faults files.new) → ¬ Rose (K.known out.old).faults (K.known out.new).faults → (result ≡ 0) ⊎ (result ≡ 7)) }
 
-    // An image that was compiled can be loaded and does, on every input, what the program of its text does.
+    // An image of a module of the first form can be loaded and does, on every input, what the program does.
     ensures follows { result ≡ 0 → WhereTold (F.held files.old) (F.held files.new) (Faithful (command_of (words_of words.now))) }
 
     // What the files hold then. Where the sink fails at the text of a command that was done, its files are written.
@@ -91,7 +91,7 @@ pub fn whopr<F: FileStore, K: Sink>(
     ensures answers { IsTrue (is_status result) }
     ensures words { Exactly 2 result ((command_of (words_of words.now)) ≡ None) }
     ensures object { ForSome (F.held files.old) (λ held. result ≢ 5 → Exactly 3 result (Refused 3 FILE_BYTES held (command_of (words_of words.now)))) }
-    ensures limit { ForSome (F.held files.old) (λ held. result ≢ 5 → Exactly 4 result (IsSomeAnd (command_of (words_of words.now)) (λ c. IsOverLimit FILE_BYTES held (reads_of c)))) }
+    ensures limit { ForSome (F.held files.old) (λ held. result ≢ 5 → Exactly 4 result (IsTooLarge FILE_BYTES held (command_of (words_of words.now)))) }
     ensures absent { ForSome (F.held files.old) (λ held. IsSomeAnd (command_of (words_of words.now)) (λ c. IsAbsent FILE_BYTES held (reads_of c)) → (result ≡ 5) ⊎ (result ≡ 7)) }
     ensures text { ForSome (F.held files.old) (λ held. result ≢ 5 → Exactly 9 result (Refused 9 FILE_BYTES held (command_of (words_of words.now)))) }
     ensures image { ForSome (F.held files.old) (λ held. result ≢ 5 → Exactly 11 result (Refused 11 FILE_BYTES held (command_of (words_of words.now)))) }
@@ -105,7 +105,7 @@ pub fn whopr<F: FileStore, K: Sink>(
     ensures complete { ForSome (F.held files.old) (λ held. IsValid FILE_BYTES held (command_of (words_of words.now))
         → ¬ Rose (F.faults files.old) (F.faults files.new) → ¬ Rose (K.known out.old).faults (K.known out.new).faults → (result ≡ 0) ⊎ (result ≡ 7)) }
 
-    // An image that was compiled can be loaded and does, on every input, what the program of its text does.
+    // An image of a module of the first form can be loaded and does, on every input, what the program does.
     ensures follows { result ≡ 0 → WhereTold (F.held files.old) (F.held files.new) (Faithful (command_of (words_of words.now))) }
 
     // What the files hold then. Where the sink fails at the text of a command that was done, its files are written.

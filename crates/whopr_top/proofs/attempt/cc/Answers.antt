@@ -1,6 +1,6 @@
 use Rattle.std.proofs.Common.{Err, ap, refl, arith, [], ◌∷◌}
 use Rattle.std.proofs.lemmas.Grind.{common_steps}
-use Rattle.whopr_top.proofs.Judging.{one_read, one_written, one_cut_short, refused, done, cut_short, text_faults, text_judged, image_given}
+use Rattle.whopr_top.proofs.Judging.{one_read, one_written, one_cut_short, refused, done, cut_short, faithful, cc_faults, cc_refuses, cc_gives}
 use Rattle.whopr_top.specs.Lines.{line}
 use Rattle.whopr_top.specs.Judgements.{Refuses}
 use Rattle.std.specs.Prelude.{codes}
@@ -10,7 +10,7 @@ pub returns-in-Err-Fault-clause-judged : goal.returns-in-Err-Fault-clause-judged
 returns-in-Err-Fault-clause-judged g c =
     rw c.in-Err-Fault.field-0-is (refused _ _ _ _ _ _ 9 _ (c.in-Ok.text.items ∷ []) (λ is. grind (arith, is)) (λ is. grind (arith, is))
     (one_read _ _ _ _ c.in-Ok.ensures.bytes (grind (arith, common_steps, c.in-Ok.ensures.within)))
-    (text_faults _ c.in-Ok.text.items _ (rw (c.in-Err-Fault.field-0-is, c.deref.ensures.value) at c.in-Err-Fault.ensures.exact)))
+    (cc_faults _ c.in-Ok.text.items _ (rw (c.in-Err-Fault.field-0-is, c.deref.ensures.value) at c.in-Err-Fault.ensures.exact)))
 
 pub returns-in-Err-NotOfForm-clause-judged : goal.returns-in-Err-NotOfForm-clause-judged
 returns-in-Err-NotOfForm-clause-judged g c =

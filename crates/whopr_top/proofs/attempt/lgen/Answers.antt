@@ -15,6 +15,7 @@ returns-in-Ok-write_all-clause-judged g c =
     (one_read _ _ _ _ c.in-Ok.ensures.bytes (grind (arith, common_steps, c.in-Ok.ensures.within)))
     (lgen_gives c.args.out.now c.in-Ok.text.items c.in-Ok-object_of.object.items _ _ (rw c.deref.ensures.value at c.in-Ok-read_module.ensures.exact) c.in-Ok-object_of.ensures c.new.ensures.items)
     (one_written _ _ c.args.out.now c.in-Ok-object_of.object.items (rw c.deref-3.ensures.value at c.in-Ok-write_all.ensures.written))
+    (λ _ _ _ _. tt)
 
 pub returns-in-Err-Failed-write_all-clause-judged : goal.returns-in-Err-Failed-write_all-clause-judged
 returns-in-Err-Failed-write_all-clause-judged g c =

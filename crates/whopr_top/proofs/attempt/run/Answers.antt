@@ -19,6 +19,7 @@ returns-in-Ok-write_all-clause-judged g c =
     (run_gives c.args.out.now c.in-Ok.bytes.items c.in-Ok-read_all.given.items _ _ c.args.steps (rw c.deref.ensures.value at c.in-Ok-run_image.ensures.loaded) (rw c.deref.ensures.value at c.in-Ok-run_image.ensures.output)
     (rw c.deref.ensures.value at c.in-Ok-run_image.ensures.line))
     (one_written _ _ c.args.out.now _ (rw c.deref-2.ensures.value at c.in-Ok-write_all.ensures.written))
+    (λ _ _ _ _. tt)
 
 pub returns-in-Err-Failed-write_all-clause-judged : goal.returns-in-Err-Failed-write_all-clause-judged
 returns-in-Err-Failed-write_all-clause-judged g c =

@@ -15,3 +15,4 @@ returns-in-Ok-shown-clause-judged g c =
     (one_read _ _ _ _ c.in-Ok.ensures.bytes (grind (arith, common_steps, c.in-Ok.ensures.within)))
     (rw c.deref.ensures.value at c.in-Ok-shown.ensures.gives)
     (none_written _ _ c.read_all.ensures.unchanged)
+    (λ _ _ _ _. tt)

@@ -1,10 +1,9 @@
 -- What a call passes has as many components as its target's parameters, and both sides of a struct copy have as many.
-use Rattle.std.proofs.Common.{◌≡◌, ◌+◌, ◌^◌, ◌<◌, ◌≤◌, ℕ, zero, suc, List, [], ◌∷◌, length, map, take, Bool, true, false, Some, None, refl, sym, ap, ◌∙◌, arith, subst}
-use Rattle.std.specs.Prelude.{◌&&◌, All, Option, slice_get, nat_eq, nat_lt, sum_by, MatchOption, IfSome, is_some}
+use Rattle.std.proofs.Common.{◌≡◌, ◌+◌, ◌<◌, ◌≤◌, ℕ, zero, suc, List, [], ◌∷◌, length, map, take, true, false, Some, None, refl, sym, ap, ◌∙◌, arith, subst}
+use Rattle.std.specs.Prelude.{All, Option, slice_get, nat_eq, sum_by, MatchOption, IfSome}
 use Rattle.std.specs.List.{list_all, zip, flat_map, filter_map, enumerate_from, cons_option}
 use Rattle.std.specs.Option.{option_map_or}
 use Rattle.std.proofs.lemmas.Bool.Decides.{nat_tests}
-use Rattle.std.proofs.lemmas.List.{length-map}
 use Rattle.std.proofs.lemmas.List.Concat.{length-flat_map}
 use Rattle.std.proofs.lemmas.List.Elements.{All-nil, All-cons, All-head, All-tail}
 use Rattle.std.proofs.lemmas.List.FromFn.{length-map-range_with_len}
@@ -13,7 +12,6 @@ use Rattle.gimple_ir.specs.declared.types.ScalarType.{ScalarType}
 use Rattle.gimple_ir.specs.declared.types.VarType.{VarType}
 use Rattle.gimple_ir.specs.declared.types.VarType.TheVariants as variable
 use Rattle.gimple_ir.specs.declared.types.StructDef.{StructDef}
-use Rattle.gimple_ir.specs.declared.types.Operand.{Operand}
 use Rattle.gimple_ir.specs.declared.types.Operand.TheVariants.{Component, Literal}
 use Rattle.gimple_ir.specs.declared.types.Arg.{Arg}
 use Rattle.gimple_ir.specs.declared.types.Arg.TheVariants.{One, Whole}
@@ -22,9 +20,8 @@ use Rattle.gimple_ir.specs.declared.types.Function.{Function}
 use Rattle.gimple_ir.specs.declared.types.Module.{Module}
 use Rattle.gimple_ir.specs.declared.types.Statement.{Statement}
 use Rattle.gimple_ir.specs.declared.types.Statement.TheVariants.{Call, CopyStruct}
-use Rattle.gimple_ir.specs.declared.summary.Edge.{Edge}
-use Rattle.gimple_ir.specs.CodeBound.{components_in, components_of, parameter_components, argument_operands}
-use Rattle.gimple_ir.specs.Statements.{ByNumber, knows, knows_target, knows_function, knows_argument, counts_arguments, types_fit, type_of, is_of_type, same_struct, structs_fit, copies_struct, argument_fits, whole_fits, arguments_fit, result_fits, type_of_call}
+use Rattle.gimple_ir.specs.CodeBound.{components_in, components_of, argument_operands}
+use Rattle.gimple_ir.specs.Statements.{ByNumber, knows, knows_target, knows_function, knows_argument, counts_arguments, types_fit, type_of, is_of_type, same_struct, structs_fit, argument_fits, whole_fits, arguments_fit, result_fits, type_of_call}
 use Rattle.gimple_ir.specs.Checks.{scope_in, knows_struct}
 use Rattle.gimple_ir.specs.Programs.{IsChecked, IsIdentifier, AgreesIn}
 use Rattle.func_summary.specs.Summaries.{field_argument, edge_arguments, edge_of, edges_of}

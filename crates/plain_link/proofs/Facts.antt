@@ -1,6 +1,6 @@
 -- What a checked module gives of each of its functions and arrays.
-use Rattle.std.proofs.Common.{◌≡◌, ◌+◌, ◌^◌, ◌<◌, ◌≤◌, ℕ, zero, suc, List, [], ◌∷◌, length, map, take, Bool, true, false, Some, None, refl, sym, ap, ◌∙◌, arith, subst}
-use Rattle.std.specs.Prelude.{◌&&◌, ◌||◌, not, All, Option, slice_get, nat_le, nat_lt, nat_eq, IfSome}
+use Rattle.std.proofs.Common.{◌≡◌, ◌+◌, ◌<◌, ◌≤◌, ℕ, zero, suc, List, [], ◌∷◌, length, map, take, Bool, true, false, Some, None, refl, ap, ◌∙◌, arith, subst}
+use Rattle.std.specs.Prelude.{◌&&◌, ◌||◌, not, All, Option, slice_get, nat_le, nat_eq, IfSome}
 use Rattle.std.specs.List.{list_all, list_any, filter_map, cons_option}
 use Rattle.std.proofs.lemmas.Bool.Decides.{nat_tests}
 use Rattle.gimple_ir.specs.declared.types.Array.{Array}
@@ -14,7 +14,7 @@ use Rattle.gimple_ir.specs.CodeBound.{components_in, parameter_components, code_
 use Rattle.gimple_ir.specs.Statements.{knows, counts_arguments, types_fit, first_failed}
 use Rattle.gimple_ir.specs.Checks.{faults_from, fault_at, struct_fault, array_kind, array_fault, function_fault, statements_fault, names_before, is_extern, head_kind, bound_kind, scope_in, body_of, counts_fit, label_of, counts_up, labels_in_order, goes_within, goals_stand, labels_stand, ends_closed, knows_struct}
 use Rattle.gimple_ir.specs.Programs.{IsStatedFunction, IsChecked}
-use Rattle.func_summary.proofs.Checked.{both-true, below, within, three-none, three-pass, first_failed-none, statement-passes, fault_at-none, faults_from-none, body-none, all-from_places, all_at, ready}
+use Rattle.func_summary.proofs.Checked.{both-true, within, three-none, three-pass, statement-passes, fault_at-none, faults_from-none, body-none, all-from_places, all_at, ready}
 
 pub three_true : (a b c : Bool) → (a && b && c) ≡ true → (a ≡ true) × (b ≡ true) × (c ≡ true)
 three_true a b c h =

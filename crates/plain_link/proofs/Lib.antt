@@ -4,4 +4,7 @@ pub mod Naming
 pub mod Summing
 pub mod Facts
 pub mod Arguments
+pub mod Uses
+pub mod Passing
+pub mod Fitting
 pub mod Made

@@ -1,5 +1,5 @@
 -- What the code keeps of a module while it is linked.
-use Rattle.std.specs.Prelude.{◌≡◌, ◌<◌, ◌^◌, ℕ, length}
+use Rattle.std.specs.Prelude.{◌≡◌, ◌<◌, ◌^◌, length}
 use Rattle.elf_container.specs.declared.relocatable.RelocObject.{RelocObject}
 use Rattle.elf_container.specs.Relocatable.{IsObject, ObjectFits}
 use Rattle.gimple_ir.specs.declared.types.Module.{Module}

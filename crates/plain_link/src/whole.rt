@@ -46,11 +46,10 @@ fn some_names_declaration(source: &Module, body: &[Statement]) -> bool
 pub fn is_open(source: &Module) -> bool
     ensures { result ≡ is_open source.now }
 {
-    source
-        .functions
-        .as_slice()
-        .iter()
-        .any(|function| some_names_declaration(source, function.body.as_slice()))
+    source.functions.as_slice().iter().any(|function| some_names_declaration(
+        source,
+        function.body.as_slice(),
+    ))
 }
 
 fn is_global(linkage: Linkage) -> bool

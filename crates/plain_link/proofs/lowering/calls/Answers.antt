@@ -1,4 +1,4 @@
-use Rattle.std.proofs.Common.{◌≡◌, ℕ, List, ◌∙◌, ap, ap₂, sym, subst, length, arith}
+use Rattle.std.proofs.Common.{ℕ, List, ◌∙◌, ap, ap₂, sym, subst, length, arith}
 use Rattle.gimple_ir.specs.declared.plan.CallPlan.{CallPlan}
 use Rattle.plain_link.specs.Numbers.{is_body, numbers_from}
 use Rattle.plain_link.specs.Lowering.{all_of, call_plan}

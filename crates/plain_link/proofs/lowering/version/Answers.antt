@@ -1,8 +1,7 @@
-use Rattle.std.proofs.Common.{◌≡◌, ◌<◌, ◌^◌, ◌≤◌, ℕ, List, sym, ap, ◌∙◌, subst, map, replicate, length, arith}
+use Rattle.std.proofs.Common.{◌≡◌, ◌<◌, ◌^◌, sym, ap, ◌∙◌, subst, map, replicate, arith}
 use Rattle.std.specs.Prelude.{All}
 use Rattle.gimple_ir.specs.declared.lattice.Lattice.TheVariants.{Bottom}
 use Rattle.gimple_ir.specs.declared.lattice.Binding.TheVariants.{Arg}
-use Rattle.gimple_ir.specs.declared.plan.Version.{Version}
 use Rattle.plain_link.specs.Lowering.{all_of, call_plan, version_of}
 use Rattle.plain_link.proofs.Listing.{of_some, to_some}
 use Rattle.plain_link.proofs.Made.{version_made, params_count}

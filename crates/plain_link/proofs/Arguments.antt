@@ -27,7 +27,7 @@ use Rattle.gimple_ir.specs.Programs.{IsChecked, IsIdentifier, AgreesIn}
 use Rattle.func_summary.specs.Summaries.{field_argument, edge_arguments, edge_of, edges_of}
 use Rattle.func_summary.proofs.Checked.{both-true, below, all_at}
 use Rattle.plain_link.specs.Known.{IsKnownEdge}
-use Rattle.plain_link.proofs.Facts.{three_true, all_true, Facts, facts}
+use Rattle.plain_link.proofs.Facts.{three_true, all_true, same_number, Facts, facts}
 
 -- ---- variables of one struct
 
@@ -100,9 +100,6 @@ arguments_few m f (a ∷ args) (p ∷ ps) (suc n) k agree h count within =
     let rest = arguments_few m f args ps n k (All-tail (Agrees m) p ps agree) both.1 (omega (arith, count)) (omega (arith, within)) in
     omega (arith, one, rest, sum_by-cons (argument_operands f.variables) a args, sum_by-cons (λ (v : Variable). length v.types) p (take n ps))
 
-same_count : (a b : ℕ) → nat_eq a b ≡ true → a ≡ b
-same_count a b h = grind (arith, nat_tests)
-
 called_few : (m : Module) (f : Function) (g : ℕ) (args : List Arg) → IsChecked m → Facts m f → (o : Option Function) → slice_get m.functions g ≡ o
     → option_map_or (λ called. nat_eq (length args) called.parameters) o true ≡ true
     → option_map_or (λ called. list_all (λ pair. argument_fits (scope_in m f) pair.0 pair.1) (zip args called.variables)) o false ≡ true
@@ -111,7 +108,7 @@ called_few m f g args checked k None e counts fits = absurd cc
 called_few m f g args checked k (Some called) e counts fits =
     let c = facts m g called checked e in
     let agree : All (Agrees m) called.variables = λ i d lt. (c.stated.variables i d lt).1 in
-    let few = arguments_few m f args called.variables called.parameters k agree fits (same_count (length args) called.parameters counts) c.stated.parameters in
+    let few = arguments_few m f args called.variables called.parameters k agree fits (same_number (length args) called.parameters counts) c.stated.parameters in
     omega (arith, few, c.parameters)
 
 -- a call passes at most 64 components

@@ -77,7 +77,7 @@ few_labels (s ∷ ss) = by (label_of s) (few_labels ss)
     by None h = omega (arith, h)
     by (Some l) h = omega (arith, h)
 
-same_number : (a b : ℕ) → nat_eq a b ≡ true → a ≡ b
+pub same_number : (a b : ℕ) → nat_eq a b ≡ true → a ≡ b
 same_number a b h = grind (arith, nat_tests)
 
 -- the labels of a statement are below their count

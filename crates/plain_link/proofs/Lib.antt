@@ -1,2 +1,3 @@
 pub mod DirectLaws
 pub mod PlanLaws
+pub mod SymbolLaws

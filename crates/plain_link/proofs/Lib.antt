@@ -12,3 +12,6 @@ pub mod Uses
 pub mod Passing
 pub mod Fitting
 pub mod Made
+pub mod DirectLaws
+pub mod PlanLaws
+pub mod SymbolLaws

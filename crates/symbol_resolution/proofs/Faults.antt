@@ -1,9 +1,8 @@
 -- The first fault and the files of lists in a row, and by tables that are alike.
-use Rattle.std.proofs.Common.{◌≡◌, ℕ, ◌+◌, ◌<◌, List, [], ◌∷◌, ◌++◌, map, length, get_or, drop, Option, Some, None, refl, ap, sym, ◌∙◌}
+use Rattle.std.proofs.Common.{◌≡◌, ℕ, ◌+◌, ◌<◌, List, [], ◌∷◌, ◌++◌, map, length, get_or, drop, Option, Some, None, refl, ap, ◌∙◌}
 use Rattle.std.proofs.lemmas.List.{at_drop_more}
 use Rattle.std.specs.Option.{option_or}
 use Rattle.lto_object.specs.Objects.{ObjectData}
-use Rattle.lto_object.specs.declared.symbol.Symbol.{Symbol}
 use Rattle.resolution_text.specs.declared.resolution.Resolved.{Resolved}
 use Rattle.resolution_text.specs.declared.resolution.ResolvedFile.{ResolvedFile}
 use Rattle.resolution_text.specs.declared.fault.ResolutionKind.{ResolutionKind}

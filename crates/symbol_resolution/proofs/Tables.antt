@@ -1,5 +1,5 @@
 -- What is kept of a name after all symbols is what they come to.
-use Rattle.std.proofs.Common.{◌≡◌, ℕ, zero, suc, ◌+◌, List, [], ◌∷◌, fold, drop, length, ◌≤◌, Bool, true, false, cond, ◌&&◌, ◌||◌, Option, Some, None, nat_lt, unwrap_or, refl, sym, ap, ◌∙◌, arith, rules}
+use Rattle.std.proofs.Common.{◌≡◌, ℕ, ◌+◌, List, [], ◌∷◌, fold, drop, length, ◌≤◌, Bool, true, false, cond, ◌&&◌, ◌||◌, Option, Some, None, nat_lt, unwrap_or, refl, sym, ap, ◌∙◌, arith, rules}
 use Rattle.std.specs.Prelude.{count_by}
 use Rattle.std.specs.List.{find}
 use Rattle.std.specs.Option.{option_map, option_or, is_some}
@@ -17,7 +17,7 @@ use Rattle.gimple_ir.specs.declared.types.Linkage.TheVariants.{Extern, Strong, W
 use Rattle.symbol_resolution.specs.declared.definitions.SymbolPlace.{SymbolPlace}
 use Rattle.symbol_resolution.specs.declared.definitions.Definitions.{Definitions}
 use Rattle.lto_object.specs.Objects.{ObjectData}
-use Rattle.symbol_resolution.specs.Symbols.{LinkSymbol, symbols_from, is_strong, is_weak, defines, first_of, is_doubled}
+use Rattle.symbol_resolution.specs.Symbols.{LinkSymbol, symbols_from, is_strong, is_weak, defines, first_of}
 use Rattle.symbol_resolution.specs.Definitions.{Table, kept, no_definitions, definitions_of, with_linkage, with_symbol}
 
 -- what two lists of symbols in a row come to

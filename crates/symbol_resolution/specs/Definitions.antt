@@ -1,5 +1,5 @@
 -- What the symbols of a name come to, which is all that is kept of them.
-use Rattle.std.specs.Prelude.{ℕ, List, unwrap_or, Bool, true, false, ◌||◌, Option, Some, None, if◌then◌else◌}
+use Rattle.std.specs.Prelude.{ℕ, List, unwrap_or, false, ◌||◌, Option, Some, None, if◌then◌else◌}
 use Rattle.std.specs.Option.{option_or, is_some}
 use Rattle.std.specs.Str.{bytes_eq}
 use Rattle.std.specs.HashMap.{HashMap, get_by}

@@ -1,7 +1,7 @@
 -- The resolution of a link: PREVAILING_DEF for the prevailing definition of `main`, PREVAILING_DEF_IRONLY for that of each other
 -- name, PREEMPTED_IR for all other definitions and RESOLVED_IR for declarations, with the number of the file from 1. Or its
 -- first fault, by the names in the order of their first symbols: two strong definitions, or none at all.
-use Rattle.std.specs.Prelude.{◌≡◌, ⊤, ◌⊎◌, ℕ, ◌+◌, List, [], ◌∷◌, map, Bool, true, false, ◌&&◌, nat_eq, Option, Some, None, Result, Ok, Err, codes, if◌then◌else◌}
+use Rattle.std.specs.Prelude.{◌≡◌, ⊤, ◌⊎◌, ℕ, ◌+◌, List, [], ◌∷◌, map, Bool, false, ◌&&◌, nat_eq, Option, Some, None, Result, Ok, Err, codes, if◌then◌else◌}
 use Rattle.std.specs.Str.{bytes_eq}
 use Rattle.gimple_ir.specs.Checks.{is_extern}
 use Rattle.lto_object.specs.Objects.{ObjectData}

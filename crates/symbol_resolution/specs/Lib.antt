@@ -1,0 +1,3 @@
+pub mod Symbols
+pub mod Definitions
+pub mod Resolving

@@ -15,12 +15,12 @@ use Rattle.plain_link.specs.declared.fault.LimitFault.{LimitFault}
 use Rattle.plain_link.specs.declared.fault.LinkFault.{LinkFault}
 use Rattle.plain_link.specs.declared.fault.LinkFault.TheVariants.{Unbuilt, Limit}
 use Rattle.plain_link.specs.Linking.{link_of}
-use Rattle.first_form.specs.Form.{FirstForm, module_of}
-use Rattle.first_form.specs.Laws.{FirstFormFollows}
+use Rattle.gimple_ir.specs.Programs.{IsChecked}
+use Rattle.link_laws.specs.Laws.{LinkedLoads, LinkedFollows}
 use Rattle.whopr_top.specs.Reads.{reads_of, AreHeld, IsOverLimit}
 use Rattle.whopr_top.specs.Lines.{line, text_line, object_line, outcome_line, limit_line}
 use Rattle.whopr_top.specs.Judgements.{File, Judgement, Refuses, Gives, Judges, image_by, cc_by, lgen_by, show_by, run_by}
-use Rattle.whopr_top.specs.Outputs.{IsJudged, IsRefused, IsDone, IsCutShort, WritesAll, CutsShort, Faithful, FollowsForm, IsFaithful, Refused, IsTooLarge, IsValid}
+use Rattle.whopr_top.specs.Outputs.{IsJudged, IsRefused, IsDone, IsCutShort, WritesAll, CutsShort, Faithful, IsFaithful, Refused, IsTooLarge, IsValid}
 use Rattle.whopr_top.specs.Answers.{Exactly, IsLimitLine}
 use Rattle.whopr_top.specs.Attempts.{Judged}
 
@@ -182,12 +182,9 @@ source_given : (output : List ℕ) (r : Result Module TextFault) (w : List File)
 source_given output (Err fault) w x h = absurd (alike_to (Gives w x) (cc_by output (Err fault)) (cc_by output (Err fault)) h refl)
 source_given output (Ok source) w x h = let given = image_given output (link_of source) w x h in (source, given.0, refl, given.1, given.2)
 
-follows_form : FirstFormFollows → (source : Module) (image : List ℕ) → link_of source ≡ Ok image → FollowsForm source image
-follows_form law source image linked form is same = law form is image (subst (λ (m : Module). link_of m ≡ Ok image) same linked)
-
-pub faithful : FirstFormFollows → (limit : ℕ) (input output text : List ℕ) (w : List File) (x : List ℕ) → Gives w x ≡ cc_by output (read_of text)
-    → (old new : Contents) → AreHeld limit old (input ∷ []) (text ∷ []) → WritesAll w old new → IsFaithful input output old new
-faithful law limit input output text w x judged old new read writes =
+pub faithful : LinkedLoads → LinkedFollows → (limit : ℕ) (input output text : List ℕ) (w : List File) (x : List ℕ) → Gives w x ≡ cc_by output (read_of text)
+    → (checked : (source : Module) → read_of text ≡ Ok source → IsChecked source) (old new : Contents) → AreHeld limit old (input ∷ []) (text ∷ []) → WritesAll w old new → IsFaithful input output old new
+faithful can_load follows limit input output text w x judged checked old new read writes =
     let given = source_given output (read_of text) w x judged in
     record {
       text = text;
@@ -196,7 +193,8 @@ faithful law limit input output text w x judged old new read writes =
       held = read.0;
       read = given.2;
       written = (the_one old new output given.1 (subst (λ (files : List File). WritesAll files old new) given.4 writes)).written;
-      follows = follows_form law given.0 given.1 given.3;
+      loads = can_load given.0 given.1 (checked given.0 given.2) given.3;
+      follows = follows given.0 given.1 (checked given.0 given.2) given.3;
     }
 
 -- ---- what the command came to

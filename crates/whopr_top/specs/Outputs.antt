@@ -4,8 +4,8 @@ use Rattle.outer_files.specs.Outside.{Contents, Writes, WritesPrefix}
 use Rattle.follow_laws.specs.Follows.{Follows}
 use Rattle.gimple_ir.specs.declared.types.Module.{Module}
 use Rattle.gimple_syntax.specs.Reading.{read_of}
-use Rattle.first_form.specs.Form.{FirstForm, IsFirstForm, module_of, program_of}
-use Rattle.first_form.specs.Laws.{IsLoadable}
+use Rattle.lowering_laws.specs.Programs.{program_of}
+use Rattle.link_laws.specs.Laws.{IsLoadable}
 use Rattle.whopr_words.specs.Commands.{Spoken, Cc}
 use Rattle.whopr_top.specs.Reads.{reads_of, AreHeld, IsOverLimit}
 use Rattle.whopr_top.specs.Judgements.{File, Refuses, Gives, Judges}
@@ -38,11 +38,8 @@ pub record IsDone (limit : ℕ) (command : Spoken) (old new : Contents) : Type 0
   pub judged : IsJudged limit command old written text
   pub writes : WritesAll written old new
 
--- an image of a module: where the module is of the first form, it can be loaded, and does on every input what the program does
-abbrev pub FollowsForm : Module → List ℕ → Type 0
-FollowsForm source image = (form : FirstForm) → IsFirstForm form → source ≡ module_of form → IsLoadable image × Follows image (program_of form)
-
--- the text that is held as IN is read to a module, and OUT holds an image that follows it
+-- the text that is held as IN is read to a module, and OUT holds an image that can be loaded and that does, on every input, what the
+-- module's program does
 pub record IsFaithful (input output : List ℕ) (old new : Contents) : Type 0 where
   pub text : List ℕ
   pub image : List ℕ
@@ -50,7 +47,8 @@ pub record IsFaithful (input output : List ℕ) (old new : Contents) : Type 0 wh
   pub held : old input ≡ Some text
   pub read : read_of text ≡ Ok source
   pub written : new output ≡ Some image
-  pub follows : FollowsForm source image
+  pub loads : IsLoadable image
+  pub follows : Follows image (program_of source)
 
 -- the image of each text that was compiled follows its program
 abbrev pub Faithful : Option Spoken → Contents → Contents → Type 0

@@ -9,8 +9,8 @@ use crate::objects::{image_of, object_of, shown};
 use crate::refusal::Refusal;
 use crate::running::run_image;
 use crate::top::FILE_BYTES;
-use first_form::first_form_follows;
 use gimple_syntax::{TextError, read_module};
+use link_laws::linked_image_follows;
 use lto_object::ObjectError;
 use outer_files::{FileStore, ReadFault, WriteFault};
 use plain_link::{LinkError, LinkFault};
@@ -76,7 +76,7 @@ fn cc<'a, F: FileStore>(
         Err(LinkError::Fault(LinkFault::Limit(passed))) => return Err(Refusal::Limit(passed)),
         Err(LinkError::NoMemory) => return Err(Refusal::Memory),
     };
-    first_form_follows();
+    linked_image_follows();
     match files.write_all(out, &image) {
         Ok(()) => Ok(Vec::new(alloc)),
         Err(WriteFault::Failed) => Err(Refusal::Write(out)),

@@ -9,3 +9,4 @@ pub mod PlainRows
 pub mod Computing
 pub mod ValueRows
 pub mod TestRows
+pub mod BuiltinRows

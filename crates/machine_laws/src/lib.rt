@@ -5,7 +5,7 @@
 //! the step table keeps of it.
 #![tactic(auto)]
 
-ghost use Rattle.machine_laws.specs.Rows.{NopRow, LabelRow, GotoRow, CopiesRow};
+ghost use Rattle.machine_laws.specs.Rows.{NopRow, LabelRow, GotoRow, CopiesRow, PutcharRow, GetcharRow, ExitRow};
 
 /// The rows of steps that move within a function: those without words, jumps, and copies of components.
 pub fn plain_rows()
@@ -13,4 +13,11 @@ pub fn plain_rows()
     ensures label { LabelRow }
     ensures goto { GotoRow }
     ensures copies { CopiesRow }
+{}
+
+/// The rows of the builtin functions.
+pub fn builtin_rows()
+    ensures putchar { PutcharRow }
+    ensures getchar { GetcharRow }
+    ensures exit { ExitRow }
 {}

@@ -7,9 +7,11 @@ use Rattle.gimple_ir.specs.declared.versioned.Step.{Step}
 use Rattle.gimple_ir.specs.declared.versioned.VersionedFunction.{VersionedFunction}
 use Rattle.gimple_meaning.specs.Acts.{Store, Act, Fault, needing}
 use Rattle.gimple_meaning.specs.Systems.{System, Frame, Machine, Running, step, next, applied, store_of}
+use Rattle.gimple_meaning.specs.Systems as program
 use Rattle.gimple_meaning.specs.Steps.{Code, act, act_in, act_at}
 use Rattle.rv64_meaning.specs.Machine.{Segments, State}
-use Rattle.follow_laws.specs.Relation.{Comes, Leads, ComesTo, Works, Rests}
+use Rattle.follow_laws.specs.Relation.{Comes, Leads, ComesTo, Advances, Works, Rests}
+use Rattle.follow_laws.proofs.WayLaws.{leads_on, leads_twice, comes_of, comes_to_end}
 use Rattle.machine_laws.specs.Linked.{LinkedProgram, linked_step, linked_code, linked_system, step_in, step_now, steps_left_in, steps_left}
 use Rattle.machine_laws.specs.Layouts.{Layout}
 use Rattle.machine_laws.specs.Relation.{AtFrame, RelatedIn, Related, GoesOn, Answers}
@@ -71,3 +73,13 @@ pub needing_answers : {T : Type 0} (m : Segments) (l : Layout) (p : LinkedProgra
     → ((v : T) → x ≡ Some v → Answers m l p s left (applied system q frame older (act v))) → Answers m l p s left (applied system q frame older (needing x act))
 needing_answers m l p s left system q frame older None act h = tt
 needing_answers m l p s left system q frame older (Some v) act h = h v refl
+
+-- words before an answer
+pub after_lead : (m : Segments) (l : Layout) (p : LinkedProgram) (s u : State) (left : ℕ) (new : program.State) → Leads m s u → Answers m l p u left new → Answers m l p s left new
+after_lead m l p s u left (program.Running q) lead a = record { state = a.state; advances = joined a.advances; related = a.related }
+  where
+    joined : {t : State} {n k : ℕ} → Advances m u t n k → Advances m s t n k
+    joined (Works more) = Works (leads_twice m s u _ lead more)
+    joined (Rests more low) = Works (leads_on m s u _ lead more)
+after_lead m l p s u left (program.Ended q status) lead a = comes_to_end m s u status q.output (comes_of m s u lead) a
+after_lead m l p s u left (program.Undefined q function place) lead a = tt

@@ -37,25 +37,16 @@ use Rattle.follow_laws.proofs.FrameLaws.{low_byte_kept, data_reached}
 use Rattle.machine_laws.specs.Linked.{LinkedProgram, linked_system}
 use Rattle.machine_laws.specs.Typed.{ProgramTyped}
 use Rattle.machine_laws.specs.Layouts.{Layout, IsPlaced, places_in, place_address}
-use Rattle.machine_laws.specs.Relation.{FrameStands, FramesWait, Holds, AtFrame}
+use Rattle.machine_laws.specs.Relation.{Holds, AtFrame}
 use Rattle.machine_laws.proofs.Lists.{all_at}
-use Rattle.machine_laws.proofs.Memory.{SameFrom, SameBelow, store_kept, bytes_kept, stands_kept, waiting_kept, arrays_kept}
+use Rattle.machine_laws.proofs.Memory.{SameFrom, SameBelow, store_kept, bytes_kept}
 use Rattle.machine_laws.proofs.Frames.{room_of}
 use Rattle.machine_laws.proofs.Places.{Here, here}
-use Rattle.machine_laws.proofs.Operands.{AreBits, FitsComponent, holds_on, value_got}
-use Rattle.machine_laws.proofs.Words.{Stretch, front_stands, behind, reaches_here, lead_on}
+use Rattle.machine_laws.proofs.Operands.{FitsComponent, kept_holds, value_got}
+use Rattle.machine_laws.proofs.Words.{Stretch, front_stands, behind, call_stands, behind_call, reaches_here, lead_on}
 use Rattle.machine_laws.proofs.Answering.{RowAt, works, needing_answers}
 use Rattle.machine_laws.proofs.PlainRows.{stretch, arrived}
 use Rattle.machine_laws.proofs.ValueRows.{assigns}
-
--- a call in front of items
-pub call_stands : (m : Segments) (places : Places) (at end : ℕ) (s : Symbol) (items : List Item) → Stretch m places at end (item.Call s ∷ items) → StandsAt m at (call at (places.symbol s))
-call_stands m places at end s items h = (h.stands.0, (h.stands.1.0, tt))
-
-pub behind_call : (m : Segments) (places : Places) (at end : ℕ) (s : Symbol) (items : List Item) → Stretch m places at end (item.Call s ∷ items) → Stretch m places (at + 8) end items
-behind_call m places at end s items h =
-    let place : at + 4 + 4 ≡ at + 8 = omega arith in
-    record { stands = subst (λ n. StandsAt m n (direct places (at + 8) items)) place h.stands.1.1; ends = omega (arith, h.ends) }
 
 -- a byte is its own form
 byte_form : (byte : ℕ) → byte < 2 ^ 8 → byte ≡ form_of (value_of Int (pos byte))
@@ -90,18 +81,7 @@ module _ (m : Segments) (l : Layout) (p : LinkedProgram) (w : IsPlaced m l p) (t
       → Holds l p g f cells older arrays new_input new_output t
   beside g f cells older arrays input output new_input new_output s t h from below sp in_is bytes out_is =
       let room = room_of m l p g f cells older arrays input output s w h in
-      let newest = stands_kept p s.mem t.mem (s.reg 2) h.back g f cells (λ q b. from q (omega (arith, b, room.above))) h.newest in
-      let waiting = waiting_kept l p s.mem t.mem g (s.reg 2 + frame_size f) h.back older (λ q b. from q (omega (arith, b, room.above))) h.waiting in
-      record {
-        back = h.back;
-        newest = subst (λ n. FrameStands p t.mem n h.back g f cells) (sym sp) newest;
-        waiting = subst (λ n. FramesWait l p t.mem g (n + frame_size f) h.back older) (sym sp) waiting;
-        depth = h.depth;
-        arrays_held = λ n i a z known kept at. arrays_kept m l p s.mem t.mem arrays w below h.arrays_held n i a z known kept at;
-        input_left = in_is;
-        input_bytes = bytes;
-        written = out_is;
-      }
+      kept_holds m l p w g f older arrays input output cells new_input new_output s t h (λ q b. from q (omega (arith, b, room.above))) below sp in_is bytes out_is
 
   scratch_reached : can_store m l.scratch 1 ≡ true
   scratch_reached =

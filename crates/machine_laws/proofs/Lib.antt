@@ -10,3 +10,5 @@ pub mod Computing
 pub mod ValueRows
 pub mod TestRows
 pub mod BuiltinRows
+pub mod ReturnRows
+pub mod CallRows

@@ -21,6 +21,7 @@ use Rattle.rv64_select.specs.Code.{operand_code}
 use Rattle.rv64_select.specs.Versioned.{ComponentFits, OperandFits}
 use Rattle.follow_laws.specs.Relation.{StandsAt, ComesTo}
 use Rattle.follow_laws.specs.Effects.{Differ, with_register}
+use Rattle.follow_laws.specs.Follows.{AreBytes}
 use Rattle.follow_laws.specs.Frames.{form_of, FrameHeld}
 use Rattle.follow_laws.specs.Selections.{operand_bits, CanRead}
 use Rattle.follow_laws.proofs.TemplateLaws.{set_other, store_stores}
@@ -30,7 +31,7 @@ use Rattle.machine_laws.specs.Linked.{LinkedProgram}
 use Rattle.machine_laws.specs.Typed.{AreTyped, ProgramTyped}
 use Rattle.machine_laws.specs.Layouts.{Layout, IsPlaced, top}
 use Rattle.machine_laws.specs.Relation.{FrameStands, FramesWait, Holds}
-use Rattle.machine_laws.proofs.Memory.{SameFrom, SameBelow, store_kept, waiting_kept, arrays_kept}
+use Rattle.machine_laws.proofs.Memory.{SameFrom, SameBelow, store_kept, stands_kept, waiting_kept, arrays_kept}
 use Rattle.machine_laws.proofs.Frames.{Room, Reached, room_of, reached}
 
 -- ---- components
@@ -70,7 +71,7 @@ typed_set f cells i o inside typed fits j v e =
       | inr other ↦ typed j v (sym (cell_elsewhere cells i j o other) ∙ e)
     ]
 
-form_lt : (v : Value) → form_of v < 2 ^ (8 * 8)
+pub form_lt : (v : Value) → form_of v < 2 ^ (8 * 8)
 form_lt v = residue_lt (2 ^ 64) (machine_form v.ty v.num) (omega arith)
 
 -- the bits of what is set
@@ -123,6 +124,23 @@ module _ (m : Segments) (l : Layout) (p : LinkedProgram) (w : IsPlaced m l p) (g
     written = same_output ∙ h.written;
   }
 
+  -- a state whose memory is the same from the components of the newest frame on, and in the arrays
+  pub kept_holds : (cells : List (Option Value)) (new_input new_output : List ℕ) (s t : State) → Holds l p g f cells older arrays input output s → SameFrom (s.reg 2 + component_slot f 0) s.mem t.mem
+      → SameBelow l.scratch s.mem t.mem → t.reg 2 ≡ s.reg 2 → t.input ≡ new_input → AreBytes new_input → t.output ≡ new_output → Holds l p g f cells older arrays new_input new_output t
+  kept_holds cells new_input new_output s t h from below sp in_is bytes out_is =
+      let newest = stands_kept p s.mem t.mem (s.reg 2) h.back g f cells from h.newest in
+      let waiting = waiting_kept l p s.mem t.mem g (s.reg 2 + frame_size f) h.back older (λ q b. from q (omega (arith, b))) h.waiting in
+      record {
+        back = h.back;
+        newest = subst (λ n. FrameStands p t.mem n h.back g f cells) (sym sp) newest;
+        waiting = subst (λ n. FramesWait l p t.mem g (n + frame_size f) h.back older) (sym sp) waiting;
+        depth = h.depth;
+        arrays_held = λ n i a z known kept at. arrays_kept m l p s.mem t.mem arrays w below h.arrays_held n i a z known kept at;
+        input_left = in_is;
+        input_bytes = bytes;
+        written = out_is;
+      }
+
   -- the slot of a component of the newest frame
   pub slot_reached : (cells : List (Option Value)) (s : State) (i : ℕ) → Holds l p g f cells older arrays input output s → i < length f.types → Reached m (s.reg 2) (component_slot f i)
   slot_reached cells s i h inside =
@@ -138,6 +156,7 @@ module _ (m : Segments) (l : Layout) (p : LinkedProgram) (w : IsPlaced m l p) (g
     pub place : t.pc ≡ s.pc + 4 * words
     pub value : AreBits (value_at cells o) (t.reg r)
     pub others : (q : ℕ) → Differ q r → t.reg q ≡ s.reg q
+    pub mem : t.mem ≡ s.mem
     pub holds : Holds l p g f cells older arrays input output t
 
   pub value_got : (cells : List (Option Value)) (s : State) (r : ℕ) (o : Operand) → Holds l p g f cells older arrays input output s → OperandFits f o → Differ r 0 → Differ 2 r
@@ -152,6 +171,7 @@ module _ (m : Segments) (l : Layout) (p : LinkedProgram) (w : IsPlaced m l p) (g
           place = refl;
           value = λ v e. set_same s.reg r bits ∙ operand_held f s h.back cells o v h.newest.held e;
           others = λ q d. set_other s.reg r bits q d;
+          mem = refl;
           holds = holds_on cells s u h (set_other s.reg r bits 2 apart) refl refl refl;
         };
       }
@@ -160,6 +180,7 @@ module _ (m : Segments) (l : Layout) (p : LinkedProgram) (w : IsPlaced m l p) (g
   pub record Assigned (to : ℕ) (o : Option Value) (cells : List (Option Value)) (words : ℕ) (s t : State) : Type 0 where
     pub place : t.pc ≡ s.pc + 4 * words
     pub others : (q : ℕ) → Differ q 28 → t.reg q ≡ s.reg q
+    pub mem : (bits : ℕ) × (t.mem ≡ store 8 s.mem (s.reg 2 + component_slot f to) bits)
     pub holds : Holds l p g f (slice_set cells to o) older arrays input output t
 
   stored_holds : (cells : List (Option Value)) (s t : State) (to bits : ℕ) (o : Option Value) → Holds l p g f cells older arrays input output s → ComponentFits f to → AreBits o bits → FitsComponent f to o
@@ -202,6 +223,7 @@ module _ (m : Segments) (l : Layout) (p : LinkedProgram) (w : IsPlaced m l p) (g
         holds = record {
           place = c.holds.place;
           others = c.holds.others;
+          mem = (read_reg s r, c.holds.mem);
           holds = stored_holds cells s c.state to (read_reg s r) o h inside bits fits (c.holds.others 2 refl) c.holds.mem c.holds.input c.holds.output;
         };
       }

@@ -8,8 +8,8 @@ use Rattle.rv64_select.specs.declared.item.Symbol.{Symbol}
 use Rattle.rv64_select.specs.declared.item.Item.{Item}
 use Rattle.rv64_select.specs.declared.item.Item.TheVariants as item
 use Rattle.rv64_select.specs.Assembly.{plain}
-use Rattle.rv64_select.specs.Code.{Places, direct}
-use Rattle.rv64_select.proofs.Laying.{direct-plain, direct-front}
+use Rattle.rv64_select.specs.Code.{words_in, Places, resolved, direct}
+use Rattle.rv64_select.proofs.Laying.{laid-append, length-direct, direct-plain, direct-front}
 use Rattle.follow_laws.specs.Relation.{StandsAt, Comes, Leads, ComesTo}
 use Rattle.follow_laws.proofs.WayLaws.{comes_on, comes_here, leads_on, comes_to_lead, stands_front, stands_back}
 
@@ -51,6 +51,29 @@ jump_stands m places at end label items h = h.stands.0
 
 pub behind_jump : (m : Segments) (places : Places) (at end label : ℕ) (items : List Item) → Stretch m places at end (item.Jump label ∷ items) → Stretch m places (at + 4) end items
 behind_jump m places at end label items h = record { stands = h.stands.1; ends = omega (arith, h.ends) }
+
+-- a call in front of items
+pub call_stands : (m : Segments) (places : Places) (at end : ℕ) (s : Symbol) (items : List Item) → Stretch m places at end (item.Call s ∷ items) → StandsAt m at (call at (places.symbol s))
+call_stands m places at end s items h = (h.stands.0, (h.stands.1.0, tt))
+
+pub behind_call : (m : Segments) (places : Places) (at end : ℕ) (s : Symbol) (items : List Item) → Stretch m places at end (item.Call s ∷ items) → Stretch m places (at + 8) end items
+behind_call m places at end s items h =
+    let place : at + 4 + 4 ≡ at + 8 = omega arith in
+    record { stands = subst (λ n. StandsAt m n (direct places (at + 8) items)) place h.stands.1.1; ends = omega (arith, h.ends) }
+
+-- what is behind items
+pub behind_items : (m : Segments) (places : Places) (at end : ℕ) (xs ys : List Item) → Stretch m places at end (xs ++ ys) → Stretch m places (at + 4 * words_in xs) end ys
+behind_items m places at end xs ys h =
+    let parts = laid-append (resolved places) at xs ys in
+    let front = direct places at xs in
+    let next = at + 4 * words_in xs in
+    let back = direct places next ys in
+    let len = length-direct places at xs in
+    let there : at + 4 * length front ≡ next = omega (arith, len) in
+    record {
+      stands = subst (λ n. StandsAt m n back) there (stands_back m at front back (subst (StandsAt m at) parts h.stands));
+      ends = omega (arith, h.ends, ap length parts, length-append front back, len);
+    }
 
 -- ---- ways
 

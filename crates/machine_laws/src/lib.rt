@@ -5,7 +5,7 @@
 //! the step table keeps of it.
 #![tactic(auto)]
 
-ghost use Rattle.machine_laws.specs.Rows.{NopRow, LabelRow, GotoRow, CopiesRow, PutcharRow, GetcharRow, ExitRow};
+ghost use Rattle.machine_laws.specs.Rows.{NopRow, LabelRow, GotoRow, CopiesRow, PutcharRow, GetcharRow, ExitRow, ReturnRow};
 
 /// The rows of steps that move within a function: those without words, jumps, and copies of components.
 pub fn plain_rows()
@@ -20,4 +20,9 @@ pub fn builtin_rows()
     ensures putchar { PutcharRow }
     ensures getchar { GetcharRow }
     ensures exit { ExitRow }
+{}
+
+/// The row of a return.
+pub fn return_row()
+    ensures { ReturnRow }
 {}

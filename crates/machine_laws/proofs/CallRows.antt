@@ -3,8 +3,8 @@ use Rattle.std.proofs.Common.{◌≡◌, ◌≢◌, ℕ, zero, suc, ◌+◌, ◌
 use Rattle.std.specs.Prelude.{slice_get, slice_set, map, replicate, max, nat_lt, unwrap_or, IsSomeAnd}
 use Rattle.std.specs.Option.{option_map, option_map_or}
 use Rattle.std.proofs.lemmas.Nat.{mul-le}
-use Rattle.std.proofs.lemmas.Option.{slice_get-map}
-use Rattle.std.proofs.lemmas.List.{length-replicate}
+use Rattle.std.proofs.lemmas.Option.{slice_get-map, slice_get_within}
+use Rattle.std.proofs.lemmas.List.{length-map}
 use Rattle.std.proofs.lemmas.List.Elements.{All-head, All-tail}
 use borrow.Author.Tests.{ltb-true}
 use Rattle.gimple_ir.specs.Values.{IsValue}
@@ -43,7 +43,7 @@ use Rattle.follow_laws.proofs.FrameLaws.{fresh_held}
 use Rattle.machine_laws.specs.Linked.{LinkedProgram, linked_code, linked_system, callee_number}
 use Rattle.machine_laws.specs.Typed.{AreTyped, ArgumentsTyped, ProgramTyped}
 use Rattle.machine_laws.specs.Layouts.{Layout, IsPlaced, FunctionPlaced, top, places_in, entry_code, place_address}
-use Rattle.machine_laws.specs.Relation.{FrameStands, WaitsFor, FramesWait, Holds, AtFrame, Answers}
+use Rattle.machine_laws.specs.Relation.{FrameStands, WaitsFor, FramesWait, Holds, AtFrame, GoesOn, Answers}
 use Rattle.machine_laws.proofs.Lists.{all_at}
 use Rattle.machine_laws.proofs.Memory.{SameFrom, SameBelow, store_kept, waiting_kept, arrays_kept}
 use Rattle.machine_laws.proofs.Frames.{Room, waiting_room, waiting_below, waiting_aligned, top_aligned, room_of, reached}
@@ -296,3 +296,179 @@ module _ (m : Segments) (l : Layout) (p : LinkedProgram) (w : IsPlaced m l p) (t
       reaches_on m t _ _ (bind_one g f older arrays input output args front (replicate n None) b k base end rest t len h sp given high (omega (arith, size)) first items)
       (λ u c. reaches_on m u _ _ (bind_run g f older arrays input output args next bs (k + 1) n base end u longer (omega (arith, size)) (omega (arith, few)) c.holds c.stack c.given high later c.code)
       (λ x r. reaches_here m x _ (record { holds = subst (λ (y : List (Option Value)). Holds l p g f y older arrays input output x) same r.holds; place = r.place })))
+
+  -- a frame of the called function, in which nothing is set
+  record Entering (g : ℕ) (f : VersionedFunction) (older : List Frame) (arrays : List (List ℤ)) (input output : List ℕ) (u t : State) : Type 0 where
+    holds : Holds l p g f (replicate (length f.types) None) older arrays input output t
+    stack : t.reg 2 + frame_size f ≡ u.reg 2
+    place : t.pc ≡ u.pc + 4 * length (enter_code (frame_size f) (return_slot f))
+    mem : (bits : ℕ) × (t.mem ≡ store 8 u.mem (t.reg 2 + return_slot f) bits)
+
+  enter_run : (frame : Frame) (f : VersionedFunction) (older : List Frame) (arrays : List (List ℤ)) (input output : List ℕ) (g : ℕ) (fn : VersionedFunction) (back : ℕ) (u : State)
+      → Holds l p frame.function f frame.components older arrays input output u → WaitsFor l p frame f g back → slice_get p.functions g ≡ Some fn → suc (length older) < most_frames → u.reg 1 ≡ back → back < 2 ^ 64
+      → StandsAt m u.pc (enter_code (frame_size fn) (return_slot fn)) → ComesTo m u (Entering g fn (frame ∷ older) arrays input output u)
+  enter_run frame f older arrays input output g fn back u h waits known deep ra far code =
+      let size = frame_size fn in
+      let slot = return_slot fn in
+      let up = u.reg 2 in
+      let base = up - size in
+      let waiting : FramesWait l p u.mem g up back (frame ∷ older) = (f, h.back, h.newest, waits, h.waiting) in
+      let high = waiting_room m l p u.mem g up back (frame ∷ older) w waiting in
+      let few = mul-le (suc (suc (length older))) l.frame 4096 l.frame deep (omega arith) in
+      let step : suc (suc (length older)) * l.frame ≡ l.frame + suc (length older) * l.frame = omega arith in
+      let largest = (w.functions g fn known).size in
+      let below = waiting_below l p u.mem g up back (frame ∷ older) waiting in
+      let aligned = waiting_aligned l p u.mem g up back (frame ∷ older) (top_aligned m l p w) waiting in
+      let room : Room l fn base = record { above = omega (arith, high, few, step, largest); below = omega (arith, below, high, few, step, largest); aligned = omega (arith, aligned, high, few, step, largest) } in
+      let small : size ≤ up = omega (arith, high, few, step, largest) in
+      let joined : base + size ≡ up = omega (arith, small) in
+      let reach = reached m l p fn base slot w room (omega arith) (omega (arith, room.below)) in
+      let c = enter_makes_frame m u size slot (omega (arith, below, w.near)) small reach.near reach.can_store code in
+      let t = c.state in
+      let k = c.holds in
+      let at = base + slot in
+      let stored : t.mem ≡ store 8 u.mem at back = k.mem ∙ ap (store 8 u.mem at) ra in
+      let saved : load 8 t.mem at ≡ back = ap (λ (x : ℕ → ℕ). load 8 x at) stored ∙ load_same 8 u.mem at back far in
+      let newest : FrameStands p t.mem base back g fn (replicate (length fn.types) None) = record {
+        known = known;
+        held = fresh_held fn t.mem base back saved;
+        typed = λ i v e. absurd (none_set (length fn.types) i v e);
+      } in
+      let from : SameFrom up u.mem t.mem = λ y b. ap (λ (x : ℕ → ℕ). x y) stored ∙ store_kept 8 u.mem at back y (inr (omega (arith, b, joined))) in
+      let low : SameBelow l.scratch u.mem t.mem = λ y b. ap (λ (x : ℕ → ℕ). x y) stored ∙ store_kept 8 u.mem at back y (inl (omega (arith, b, room.above, w.scratch_below))) in
+      let rest = waiting_kept l p u.mem t.mem g up back (frame ∷ older) from waiting in
+      let sp : base ≡ t.reg 2 = sym k.stack in
+      record {
+        state = t;
+        leads = c.leads;
+        holds = record {
+          holds = record {
+            back = back;
+            newest = subst (λ n. FrameStands p t.mem n back g fn (replicate (length fn.types) None)) sp newest;
+            waiting = subst (λ n. FramesWait l p t.mem g n back (frame ∷ older)) (omega (arith, joined, sp)) rest;
+            depth = omega (arith, deep);
+            arrays_held = λ n i a z array kept there. arrays_kept m l p u.mem t.mem arrays w low h.arrays_held n i a z array kept there;
+            input_left = k.input ∙ h.input_left;
+            input_bytes = h.input_bytes;
+            written = k.output ∙ h.written;
+          };
+          stack = omega (arith, joined, sp);
+          place = k.place;
+          mem = (back, stored ∙ ap (λ n. store 8 u.mem (n + slot) back) sp);
+        };
+      }
+
+  -- the whole entry of a function
+  entry_run : (frame : Frame) (f : VersionedFunction) (older : List Frame) (arrays : List (List ℤ)) (input output : List ℕ) (g : ℕ) (fn : VersionedFunction) (back : ℕ) (args : List (Option Value)) (u : State)
+      → Holds l p frame.function f frame.components older arrays input output u → WaitsFor l p frame f g back → slice_get p.functions g ≡ Some fn → suc (length older) < most_frames → u.reg 1 ≡ back → back < 2 ^ 64
+      → u.pc ≡ l.address fn.symbol → ArgumentsHeld u.mem (u.reg 2) args → u.reg 2 + 8 * length args ≤ top l → ((i : ℕ) (b : Binding) → slice_get fn.bindings i ≡ Some b → BindingFits fn args (0 + i) b)
+      → ComesTo m u (AtFrame l p (fresh g (opened (linked_code p fn) args)) (frame ∷ older) arrays input output)
+  entry_run frame f older arrays input output g fn back args u h waits known deep ra far at given high fits =
+      let placed = w.functions g fn known in
+      let places = places_in l fn in
+      let end = body_at l fn in
+      let enter = enter_code (frame_size fn) (return_slot fn) in
+      let rest = bindings_items (frame_of fn) 0 fn.bindings in
+      let stands = stands_front m (l.address fn.symbol) (entry_code l fn) (steps_code places fn end fn.body) (entry_stands m l fn placed) in
+      let first : Stretch m places (l.address fn.symbol) end (entry_items (frame_of fn) fn.bindings) = record { stands = stands; ends = refl } in
+      let items = subst (λ n. Stretch m places n end (plain enter ++ rest)) (sym at) first in
+      let params = (typed.functions g fn known).parameters in
+      lead_on m u _ _ (enter_run frame f older arrays input output g fn back u h waits known deep ra far (front_stands m places u.pc end enter rest items))
+      (λ t k.
+      let up : t.reg 2 + frame_size fn ≡ u.reg 2 = k.stack in
+      let slot = t.reg 2 + return_slot fn in
+      let given_t : ArgumentsHeld t.mem (t.reg 2 + frame_size fn) args = λ j v e.
+      ap (λ (x : ℕ → ℕ). load 8 x (t.reg 2 + frame_size fn + 8 * j)) k.mem.1 ∙ load_apart 8 8 u.mem slot k.mem.0 (t.reg 2 + frame_size fn + 8 * j) (inr (omega arith)) ∙ ap (λ n. load 8 u.mem (n + 8 * j)) up ∙ given j v e in
+      reaches_on m t _ _ (bind_run g fn (frame ∷ older) arrays input output args [] fn.bindings 0 (length fn.types) (t.reg 2) end t refl (omega arith) params k.holds refl given_t (omega (arith, high, up)) fits (behind m places u.pc end t.pc enter rest items k.place))
+      (λ x r. reaches_here m x _ (record { function = fn; holds = r.holds; place = r.place ∙ sym (place_zero l fn); copies = tt })))
+
+  -- ---- the row
+
+  -- what becomes of a call: nothing is asked where it is undefined
+  entered_answers : (b : Bool) (o : Option VersionedFunction) (q : Machine) (frame : Frame) (older : List Frame) (g : ℕ) (args : List (Option Value)) (s : State) (left : ℕ) → nat_lt (length (frame ∷ older)) most_frames ≡ b → slice_get p.functions g ≡ o
+      → ((fn : VersionedFunction) → slice_get p.functions g ≡ Some fn → length (frame ∷ older) < most_frames → GoesOn m l p s left (record q { frames = fresh g (opened (linked_code p fn) args) ∷ frame ∷ older }))
+      → Answers m l p s left (entered q frame older g b (opened_by (option_map (linked_code p) o) args))
+  entered_answers true (Some fn) q frame older g args s left room known h = h fn known (ltb-true (length (frame ∷ older)) most_frames room)
+  entered_answers true None q frame older g args s left room known h = tt
+  entered_answers false o q frame older g args s left room known h = tt
+
+  named : (o : Option (List ℕ)) (g : ℕ) → option_map p.function_named o ≡ Some g → (symbol : List ℕ) × (o ≡ Some symbol) × (p.function_named symbol ≡ g)
+  named None g e = absurd (none-some g e)
+    where
+      none-some : (g : ℕ) → None ≡ Some g → ⊥
+      none-some g h = cc
+  named (Some symbol) g e = (symbol, refl, some_number (p.function_named symbol) g e)
+    where
+      some_number : (a b : ℕ) → Some a ≡ Some b → a ≡ b
+      some_number a b h = cc
+
+  some_and : (P : Operand → Type 0) (o : Option Operand) → IsSomeAnd o P → (a : Operand) × (o ≡ Some a) × P a
+  some_and P None h = absurd h
+  some_and P (Some a) h = (a, refl, h)
+
+  -- what the called function asks of its arguments
+  bindings_fit : (g : ℕ) (f fn : VersionedFunction) (cells : List (Option Value)) (args : List Operand) → slice_get p.functions g ≡ Some fn → AreTyped f cells → All IsOperand args → ArgumentsTyped f fn args
+      → (i : ℕ) (b : Binding) → slice_get fn.bindings i ≡ Some b → BindingFits fn (map (value_at cells) args) (0 + i) b
+  bindings_fit g f fn cells args known cells_typed numbers types i b at =
+      let same : i ≡ 0 + i = omega arith in
+      subst (λ n. BindingFits fn (map (value_at cells) args) n b) same (record {
+        argument = λ k is.
+        let found = some_and (λ a. type_of f a ≡ type_of_component fn i) (slice_get args k) (types i k (at ∙ ap Some is)) in
+        let a = found.0 in
+        let inside = slice_get_within args k a found.1 in
+        (omega (arith, inside, length-map args (value_at cells)), λ v e.
+        let c = cell-map cells args k v e in
+        let kind = operand_typed f cells c.0 v cells_typed c.2 (all_at IsOperand args k c.0 c.1 numbers) in
+        let which : c.0 ≡ a = some_operand c.0 a (sym c.1 ∙ found.1) in
+        (kind.0 ∙ ap (type_of f) which ∙ found.2, kind.1));
+        constant_fits = λ v is. (typed.functions g fn known).constants i v (at ∙ ap Some is);
+      })
+
+  pub call_at : (to : Option ℕ) (call_number : ℕ) (args : List Operand) → RowAt m l p (Call to call_number args)
+  call_at to call_number args q frame older s a e =
+      let f = a.function in
+      let cells = frame.components in
+      let form = Call to call_number args in
+      let known = a.holds.newest.known in
+      let checked = typed.functions frame.function f known in
+      let fits = all_at (StepFits f) f.body frame.place form e checked.versioned.steps in
+      let types = checked.steps frame.place form e in
+      let left = length f.body - frame.place in
+      let places = places_in l f in
+      let end = place_address l f (frame.place + 1) in
+      let passing = argument_items (frame_of f) 0 args in
+      let target = symbols.Target call_number in
+      let rest = item.Call target ∷ plain (assign_in (frame_of f) 10 to) in
+      let items = stretch m l p w typed frame older q.arrays q.input q.output s form a e in
+      let at = here m l f s frame.place form (w.functions frame.function f known) a.place e in
+      let few = passes_few f.body frame.place form e in
+      let values = map (value_at cells) args in
+      let room = room_of m l p frame.function f cells older q.arrays q.input q.output s w a.holds in
+      needing_answers m l p s left (linked_system p) q frame older (slice_get (map p.function_named f.calls) call_number) (λ g. Calls g values)
+      (λ g eg.
+      let name = named (slice_get f.calls call_number) g (sym (slice_get-map p.function_named f.calls call_number) ∙ eg) in
+      let symbol = name.0 in
+      let number : callee_number p f call_number ≡ g = ap (λ (o : Option (List ℕ)). option_map_or p.function_named o (length p.functions)) name.1 ∙ name.2 in
+      let enters = slice_get-map (linked_code p) p.functions g in
+      subst (λ (o : Option Code). Answers m l p s left (entered q frame older g (nat_lt (length (frame ∷ older)) most_frames) (opened_by o values))) (sym enters)
+      (entered_answers (nat_lt (length (frame ∷ older)) most_frames) (slice_get p.functions g) q frame older g values s left refl refl
+      (λ fn known_fn deep. works m l p s left _
+      (come_on m s _ _ (pass_run frame.function f cells older q.arrays q.input q.output (s.reg 2) 0 args end rest s a.holds refl fits.2 (omega (arith, few)) items)
+      (λ t k.
+      let placed = w.functions g fn known_fn in
+      let address = l.address fn.symbol in
+      let there : places.symbol target ≡ address =
+      ap (λ (o : Option (List ℕ)). l.address (unwrap_or o [])) name.1 ∙ w.calls frame.function call_number f fn symbol known name.1 (ap (slice_get p.functions) name.2 ∙ known_fn) in
+      let calls = subst (λ n. StandsAt m t.pc (call t.pc n)) there (call_stands m places t.pc end target (plain (assign_in (frame_of f) 10 to)) k.code) in
+      let after = behind_call m places t.pc end target (plain (assign_in (frame_of f) 10 to)) k.code in
+      let u = called t address in
+      let to_u = call_goes m t address (omega (arith, after.ends, at.near)) (omega (arith, placed.near)) (omega (arith, placed.aligned)) calls in
+      let held = holds_on m l p w frame.function f older q.arrays q.input q.output cells t u k.holds refl refl refl refl in
+      let waits : WaitsFor l p frame f g (t.pc + 8) = record { to = to; call = call_number; args = args; step = e; target = number; return_address = omega (arith, k.place, a.place) } in
+      let given : ArgumentsHeld u.mem (u.reg 2) values = λ j v ev.
+      let first : j ≡ 0 + j = omega arith in
+      ap (λ n. load 8 t.mem (n + 8 * j)) k.stack ∙ ap (λ n. load 8 t.mem (s.reg 2 + 8 * n)) first ∙ k.given j v ev in
+      let c = entry_run frame f older q.arrays q.input q.output g fn (t.pc + 8) values u held waits known_fn deep refl (omega (arith, after.ends, at.near)) refl given
+      (omega (arith, k.stack, room.below, few, length-map args (value_at cells)))
+      (bindings_fit g f fn cells args known_fn a.holds.newest.typed types.0 (types.2 fn (ap (slice_get p.functions) number ∙ known_fn))) in
+      record { state = c.state; leads = leads_twice m t u c.state to_u c.leads; holds = c.holds })))))

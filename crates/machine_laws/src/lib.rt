@@ -5,7 +5,7 @@
 //! the step table keeps of it.
 #![tactic(auto)]
 
-ghost use Rattle.machine_laws.specs.Rows.{NopRow, LabelRow, GotoRow, CopiesRow, PutcharRow, GetcharRow, ExitRow, ReturnRow};
+ghost use Rattle.machine_laws.specs.Rows.{NopRow, LabelRow, GotoRow, CopiesRow, PutcharRow, GetcharRow, ExitRow, CallRow, ReturnRow};
 
 /// The rows of steps that move within a function: those without words, jumps, and copies of components.
 pub fn plain_rows()
@@ -22,7 +22,8 @@ pub fn builtin_rows()
     ensures exit { ExitRow }
 {}
 
-/// The row of a return.
-pub fn return_row()
-    ensures { ReturnRow }
+/// The rows of calls and returns.
+pub fn call_rows()
+    ensures call { CallRow }
+    ensures give { ReturnRow }
 {}

@@ -15,3 +15,4 @@ pub mod ReturnRows
 pub mod CallRows
 pub mod Forms
 pub mod Sums
+pub mod Following

@@ -218,7 +218,7 @@ module _ (m : Segments) (l : Layout) (p : LinkedProgram) (w : IsPlaced m l p) (t
         holds = subst (λ (x : List (Option Value)). Holds l p g f x older arrays input output t) same c.holds;
         stack = c.others 2 refl ∙ sp;
         given = λ j v e.
-        ap (λ (x : ℕ → ℕ). load 8 x (up + 8 * j)) c.mem.1 ∙ load_apart 8 8 u.mem (u.reg 2 + component_slot f k) c.mem.0 (up + 8 * j) (inr (omega (arith, sp, inside))) ∙ given j v e;
+            ap (λ (x : ℕ → ℕ). load 8 x (up + 8 * j)) c.mem.1 ∙ load_apart 8 8 u.mem (u.reg 2 + component_slot f k) c.mem.0 (up + 8 * j) (inr (omega (arith, sp, inside))) ∙ given j v e;
         code = behind m places u.pc end t.pc set rest items c.place;
       }))
 
@@ -423,14 +423,16 @@ module _ (m : Segments) (l : Layout) (p : LinkedProgram) (w : IsPlaced m l p) (t
       let same : i ≡ 0 + i = omega arith in
       subst (λ n. BindingFits fn (map (value_at cells) args) n b) same (record {
         argument = λ k is.
-        let found = some_and (λ a. type_of f a ≡ type_of_component fn i) (slice_get args k) (types i k (at ∙ ap Some is)) in
-        let a = found.0 in
-        let inside = slice_get_within args k a found.1 in
-        (omega (arith, inside, length-map args (value_at cells)), λ v e.
-        let c = cell-map cells args k v e in
-        let kind = operand_typed f cells c.0 v cells_typed c.2 (all_at IsOperand args k c.0 c.1 numbers) in
-        let which : c.0 ≡ a = some_operand c.0 a (sym c.1 ∙ found.1) in
-        (kind.0 ∙ ap (type_of f) which ∙ found.2, kind.1));
+            let found = some_and (λ a. type_of f a ≡ type_of_component fn i) (slice_get args k) (types i k (at ∙ ap Some is)) in
+            let a = found.0 in
+            let inside = slice_get_within args k a found.1 in (
+              omega (arith, inside, length-map args (value_at cells)),
+              λ v e.
+                  let c = cell-map cells args k v e in
+                  let kind = operand_typed f cells c.0 v cells_typed c.2 (all_at IsOperand args k c.0 c.1 numbers) in
+                  let which : c.0 ≡ a = some_operand c.0 a (sym c.1 ∙ found.1) in
+                  (kind.0 ∙ ap (type_of f) which ∙ found.2, kind.1),
+            );
         constant_fits = λ v is. (typed.functions g fn known).constants i v (at ∙ ap Some is);
       })
 

@@ -203,7 +203,7 @@ module _ (m : Segments) (l : Layout) (p : LinkedProgram) (w : IsPlaced m l p) (t
       let kind_y = operand_typed f cells y u a.holds.newest.typed eu types.1 in
       let type = type_of_component f to in
       let fit : Fit op type v u = fit_of op type v u
-          (ap (λ (ty : ScalarType). binary_fits op (Some type) (Some ty) (Some u.ty)) kind_x.0 ∙ ap (λ (ty : ScalarType). binary_fits op (Some type) (Some (type_of f x)) (Some ty)) kind_y.0 ∙ types.2) in
+      (ap (λ (ty : ScalarType). binary_fits op (Some type) (Some ty) (Some u.ty)) kind_x.0 ∙ ap (λ (ty : ScalarType). binary_fits op (Some type) (Some (type_of f x)) (Some ty)) kind_y.0 ∙ types.2) in
       let made = operation_is op v u r er in
       let code = operation op (type_of f x) in
       let result : ResultOf code (form_of v) (form_of u) type r = record {

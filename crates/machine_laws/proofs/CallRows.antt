@@ -1,6 +1,6 @@
 -- The row of a call: the arguments in the outgoing slots, the jump, and the entry of the function that is called.
-use Rattle.std.proofs.Common.{◌≡◌, ◌≢◌, ℕ, zero, suc, ◌+◌, ◌-◌, ◌*◌, ◌/◌, ◌%◌, ◌^◌, ◌<◌, ◌≤◌, ℤ, List, [], ◌∷◌, ◌++◌, length, Bool, true, false, Option, Some, None, All, inl, inr, refl, sym, ap, ◌∙◌, subst, arith, append_assoc, append-nil, length-append}
-use Rattle.std.specs.Prelude.{slice_get, slice_set, map, replicate, max, nat_lt, unwrap_or, IsSomeAnd}
+use Rattle.std.proofs.Common.{◌≡◌, ℕ, zero, suc, ◌+◌, ◌-◌, ◌*◌, ◌^◌, ◌<◌, ◌≤◌, ℤ, List, [], ◌∷◌, ◌++◌, length, Bool, true, false, Option, Some, None, All, inl, inr, refl, sym, ap, ◌∙◌, subst, arith, append_assoc, append-nil, length-append}
+use Rattle.std.specs.Prelude.{slice_get, slice_set, map, replicate, nat_lt, unwrap_or, IsSomeAnd}
 use Rattle.std.specs.Option.{option_map, option_map_or}
 use Rattle.std.proofs.lemmas.Nat.{mul-le}
 use Rattle.std.proofs.lemmas.Option.{slice_get-map, slice_get_within}
@@ -16,7 +16,7 @@ use Rattle.gimple_ir.specs.declared.lattice.Binding.TheVariants as binding
 use Rattle.gimple_ir.specs.declared.versioned.Step.{Step}
 use Rattle.gimple_ir.specs.declared.versioned.Step.TheVariants.{Call}
 use Rattle.gimple_ir.specs.declared.versioned.VersionedFunction.{VersionedFunction}
-use Rattle.gimple_meaning.specs.Acts.{Calls, needing, cell, value_at}
+use Rattle.gimple_meaning.specs.Acts.{Calls, cell, value_at}
 use Rattle.gimple_meaning.specs.Systems.{Frame, Machine, fresh, entered, most_frames}
 use Rattle.gimple_meaning.specs.Steps.{Code, bound_by, bound, opened, opened_by}
 use Rattle.rv64_meaning.specs.Arithmetic.{bits64}
@@ -29,7 +29,7 @@ use Rattle.rv64_select.specs.declared.item.Item.{Item}
 use Rattle.rv64_select.specs.declared.item.Item.TheVariants as item
 use Rattle.rv64_select.specs.Templates.{constant, load_slot, store_slot, machine_form}
 use Rattle.rv64_select.specs.Assembly.{plain, operand_in, set_in, assign_in, type_of, type_of_component, enter_code, binding_items, bindings_items, entry_items, argument_items}
-use Rattle.rv64_select.specs.Code.{words_in, symbol_name, steps_code}
+use Rattle.rv64_select.specs.Code.{words_in, steps_code}
 use Rattle.rv64_select.proofs.Laying.{words-append, words-plain}
 use Rattle.rv64_select.specs.Versioned.{ComponentFits, OperandFits, StepFits}
 use Rattle.follow_laws.specs.Relation.{StandsAt, ComesTo, Leads}
@@ -38,19 +38,19 @@ use Rattle.follow_laws.specs.Follows.{AreBytes}
 use Rattle.follow_laws.specs.Frames.{form_of}
 use Rattle.follow_laws.specs.Selections.{address_of}
 use Rattle.follow_laws.proofs.WayLaws.{reach_on, leads_twice, stands_front}
-use Rattle.follow_laws.proofs.TemplateLaws.{set_other, constant_sets, load_sets, store_stores, call_goes, enter_makes_frame}
+use Rattle.follow_laws.proofs.TemplateLaws.{constant_sets, load_sets, store_stores, call_goes, enter_makes_frame}
 use Rattle.follow_laws.proofs.SelectionLaws.{form_fits}
 use Rattle.follow_laws.proofs.FrameLaws.{fresh_held}
 use Rattle.machine_laws.specs.Linked.{LinkedProgram, linked_code, linked_system, callee_number}
 use Rattle.machine_laws.specs.Typed.{AreTyped, ArgumentsTyped, ProgramTyped}
-use Rattle.machine_laws.specs.Layouts.{Layout, IsPlaced, FunctionPlaced, top, places_in, entry_code, place_address}
+use Rattle.machine_laws.specs.Layouts.{Layout, IsPlaced, top, places_in, entry_code, place_address}
 use Rattle.machine_laws.specs.Relation.{FrameStands, WaitsFor, FramesWait, ArraysHeld, Holds, AtFrame, GoesOn, Answers}
 use Rattle.machine_laws.proofs.Lists.{all_at}
 use Rattle.machine_laws.proofs.Memory.{SameFrom, SameBelow, store_kept, waiting_kept, arrays_kept}
 use Rattle.machine_laws.proofs.Frames.{Room, waiting_room, waiting_below, waiting_aligned, top_aligned, room_of, reached}
-use Rattle.machine_laws.proofs.Places.{Here, here, body_at, entry_stands}
-use Rattle.machine_laws.proofs.Operands.{AreBits, FitsComponent, operand_typed, form_lt, set_same, holds_on, kept_holds, value_got, value_set}
-use Rattle.machine_laws.proofs.Words.{Stretch, front_stands, behind, grouped, call_stands, behind_call, behind_items, Reaches, reaches_here, reaches_of, reaches_on, lead_on, come_on}
+use Rattle.machine_laws.proofs.Places.{here, body_at, entry_stands}
+use Rattle.machine_laws.proofs.Operands.{AreBits, FitsComponent, operand_typed, form_lt, holds_on, kept_holds, value_got, value_set}
+use Rattle.machine_laws.proofs.Words.{Stretch, front_stands, behind, grouped, call_stands, behind_call, Reaches, reaches_here, reaches_of, reaches_on, lead_on, come_on}
 use Rattle.machine_laws.proofs.Answering.{RowAt, works, needing_answers}
 use Rattle.machine_laws.proofs.PlainRows.{stretch}
 

@@ -1,11 +1,10 @@
 -- The rows joined: from its start the machine follows the program.
-use Rattle.std.proofs.Common.{◌≡◌, ℕ, suc, ◌+◌, ◌-◌, ◌*◌, ◌%◌, ◌^◌, ◌<◌, ◌≤◌, ℤ, List, [], ◌∷◌, length, Option, Some, None, refl, sym, ap, ◌∙◌, subst, arith}
-use Rattle.std.specs.Prelude.{slice_get, map, unwrap_or}
+use Rattle.std.proofs.Common.{◌≡◌, ℕ, ◌+◌, List, [], ◌∷◌, Option, Some, None, refl, sym, ap, ◌∙◌, subst, arith}
+use Rattle.std.specs.Prelude.{slice_get, unwrap_or}
 use Rattle.std.specs.Option.{option_map, option_and_then}
 use Rattle.std.proofs.lemmas.Option.{slice_get-map}
 use Rattle.gimple_ir.specs.declared.types.Value.{Value}
 use Rattle.gimple_ir.specs.declared.lattice.Binding.{Binding}
-use Rattle.gimple_ir.specs.declared.lattice.Binding.TheVariants as binding
 use Rattle.gimple_ir.specs.declared.versioned.Step.{Step}
 use Rattle.gimple_ir.specs.declared.versioned.VersionedFunction.{VersionedFunction}
 use Rattle.gimple_meaning.specs.Acts.{Act, Fault}
@@ -14,7 +13,6 @@ use Rattle.gimple_meaning.specs.Systems as program
 use Rattle.gimple_meaning.specs.Run.{run}
 use Rattle.gimple_meaning.specs.Steps.{Code, act_in, act_at, opened, opened_by}
 use Rattle.rv64_meaning.specs.Machine.{Segments, State, exec}
-use Rattle.final_link.specs.Stubs.{start_address}
 use Rattle.follow_laws.specs.Follows.{RunFollows}
 use Rattle.follow_laws.specs.Relation.{ComesTo, Advances}
 use Rattle.follow_laws.specs.Relation as relation
@@ -25,10 +23,10 @@ use Rattle.follow_laws.proofs.SimulationLaws as simulation
 use Rattle.machine_laws.specs.Linked.{LinkedProgram, linked_step, linked_code, linked_system, step_in, step_now, steps_left_in, steps_left}
 use Rattle.machine_laws.specs.Typed.{ProgramTyped}
 use Rattle.machine_laws.specs.Layouts.{Layout, IsPlaced, top, first_return}
-use Rattle.machine_laws.specs.Relation.{FramesWait, ArraysHeld, AtFrame, RelatedIn, Related, GoesOn, Answers}
+use Rattle.machine_laws.specs.Relation.{FramesWait, ArraysHeld, AtFrame, RelatedIn, Related, Answers}
 use Rattle.machine_laws.specs.Rows.{Row}
 use Rattle.machine_laws.specs.Starts.{AtStart, linked_run}
-use Rattle.machine_laws.proofs.CallRows.{ArgumentsHeld, BindingFits, Ready, entry_run}
+use Rattle.machine_laws.proofs.CallRows.{BindingFits, Ready, entry_run}
 
 -- a row for every form of a step
 abbrev pub AllRows : Type 0

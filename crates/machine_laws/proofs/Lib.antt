@@ -16,3 +16,4 @@ pub mod CallRows
 pub mod Forms
 pub mod Sums
 pub mod Following
+pub mod AllRows

@@ -1,6 +1,6 @@
 -- An operand into a register, and a register into a component, in a state that holds the frames.
-use Rattle.std.proofs.Common.{◌≡◌, ◌≢◌, ℕ, zero, suc, ◌+◌, ◌-◌, ◌*◌, ◌/◌, ◌%◌, ◌^◌, ◌<◌, ◌≤◌, ◌⊎◌, inl, inr, ℤ, Bool, true, false, cond, List, [], ◌∷◌, length, Option, Some, None, refl, sym, ap, ◌∙◌, subst, arith}
-use Rattle.std.specs.Prelude.{◌==◌, slice_get, slice_set}
+use Rattle.std.proofs.Common.{◌≡◌, ◌≢◌, ℕ, zero, suc, ◌+◌, ◌*◌, ◌^◌, ◌<◌, ◌≤◌, ◌⊎◌, inl, inr, ℤ, List, [], ◌∷◌, length, Option, Some, refl, sym, ap, ◌∙◌, subst, arith}
+use Rattle.std.specs.Prelude.{◌==◌, slice_set}
 use Rattle.std.proofs.lemmas.Bool.{cond-true, cond-false, eq-eqb, cases_eq, cases_lt}
 use Rattle.std.proofs.lemmas.List.{length-set}
 use Rattle.gimple_ir.specs.Values.{IsValue}
@@ -28,11 +28,11 @@ use Rattle.follow_laws.proofs.TemplateLaws.{set_other, store_stores}
 use Rattle.follow_laws.proofs.SelectionLaws.{operand_sets}
 use Rattle.follow_laws.proofs.FrameLaws.{operand_held}
 use Rattle.machine_laws.specs.Linked.{LinkedProgram}
-use Rattle.machine_laws.specs.Typed.{AreTyped, ProgramTyped}
-use Rattle.machine_laws.specs.Layouts.{Layout, IsPlaced, top}
+use Rattle.machine_laws.specs.Typed.{AreTyped}
+use Rattle.machine_laws.specs.Layouts.{Layout, IsPlaced}
 use Rattle.machine_laws.specs.Relation.{FrameStands, FramesWait, Holds}
 use Rattle.machine_laws.proofs.Memory.{SameFrom, SameBelow, store_kept, stands_kept, waiting_kept, arrays_kept}
-use Rattle.machine_laws.proofs.Frames.{Room, Reached, room_of, reached}
+use Rattle.machine_laws.proofs.Frames.{Reached, room_of, reached}
 
 -- ---- components
 

@@ -1,6 +1,6 @@
 -- The row of a return: the frame is given back, and the caller's call is done; the first frame's return ends the run.
-use Rattle.std.proofs.Common.{◌≡◌, ◌≢◌, ℕ, zero, suc, ◌+◌, ◌-◌, ◌*◌, ◌%◌, ◌^◌, ◌<◌, ◌≤◌, ℤ, pos, List, [], ◌∷◌, ◌++◌, length, Option, Some, None, refl, sym, ap, ◌∙◌, subst, arith, append-nil}
-use Rattle.std.specs.Prelude.{slice_get, slice_set, map}
+use Rattle.std.proofs.Common.{◌≡◌, ℕ, ◌+◌, ◌-◌, ◌*◌, ◌%◌, ◌^◌, ◌<◌, ℤ, pos, List, [], ◌∷◌, ◌++◌, length, Option, Some, None, refl, sym, ap, ◌∙◌, subst, arith, append-nil}
+use Rattle.std.specs.Prelude.{slice_get}
 use Rattle.std.specs.Option.{option_map}
 use Rattle.std.proofs.lemmas.Option.{slice_get-map}
 use Rattle.gimple_ir.specs.Values.{IsValue}
@@ -9,32 +9,31 @@ use Rattle.gimple_ir.specs.declared.types.Value.{Value}
 use Rattle.gimple_ir.specs.declared.versioned.Step.{Step}
 use Rattle.gimple_ir.specs.declared.versioned.Step.TheVariants.{Return, Call}
 use Rattle.gimple_ir.specs.declared.versioned.VersionedFunction.{VersionedFunction}
-use Rattle.gimple_meaning.specs.Acts.{Leaves, value_at, low_byte}
+use Rattle.gimple_meaning.specs.Acts.{Leaves, value_at}
 use Rattle.gimple_meaning.specs.Systems.{Frame, Machine, moved, received, resumed, status}
 use Rattle.gimple_meaning.specs.Systems as program
 use Rattle.gimple_meaning.specs.Steps.{Code, target_of, target_at}
 use Rattle.rv64_isa.specs.declared.instr.Instr.TheVariants.{Addi, Ecall}
-use Rattle.rv64_meaning.specs.Machine.{Segments, State, load}
-use Rattle.rv64_frame.specs.Frames.{frame_of, frame_size, return_slot, return_in}
+use Rattle.rv64_meaning.specs.Machine.{Segments, State}
+use Rattle.rv64_frame.specs.Frames.{frame_of, frame_size, return_slot}
 use Rattle.rv64_select.specs.declared.item.Symbol.TheVariants as symbols
-use Rattle.rv64_select.specs.declared.item.Item.{Item}
 use Rattle.rv64_select.specs.declared.item.Item.TheVariants as item
-use Rattle.rv64_select.specs.Assembly.{plain, operand_in, assign_in, argument_items, return_items, leave_code, step_items}
+use Rattle.rv64_select.specs.Assembly.{plain, operand_in, assign_in, argument_items, leave_code}
 use Rattle.rv64_select.specs.Code.{words_in}
 use Rattle.rv64_select.specs.Versioned.{TargetFits, StepFits}
 use Rattle.follow_laws.specs.Relation.{StandsAt, ComesTo, EndsWith}
 use Rattle.follow_laws.specs.Frames.{form_of}
-use Rattle.follow_laws.proofs.WayLaws.{reach_on, comes_of, comes_to_end, leads_twice}
+use Rattle.follow_laws.proofs.WayLaws.{comes_of, comes_to_end}
 use Rattle.follow_laws.proofs.TemplateLaws.{leave_returns}
 use Rattle.follow_laws.proofs.StubLaws.{exit_ends}
 use Rattle.follow_laws.proofs.FrameLaws.{low_byte_kept}
-use Rattle.machine_laws.specs.Linked.{LinkedProgram, linked_step, linked_code, linked_system, callee_number}
+use Rattle.machine_laws.specs.Linked.{LinkedProgram, linked_step, linked_code, linked_system}
 use Rattle.machine_laws.specs.Typed.{ProgramTyped, TargetTyped}
-use Rattle.machine_laws.specs.Layouts.{Layout, IsPlaced, top, places_in, place_address, first_return}
+use Rattle.machine_laws.specs.Layouts.{Layout, IsPlaced, places_in, place_address}
 use Rattle.machine_laws.specs.Relation.{FrameStands, WaitsFor, FramesWait, ArraysHeld, Holds, AtFrame, Answers}
 use Rattle.machine_laws.proofs.Lists.{all_at}
 use Rattle.machine_laws.proofs.Frames.{room_of, reached}
-use Rattle.machine_laws.proofs.Places.{Here, here}
+use Rattle.machine_laws.proofs.Places.{here}
 use Rattle.machine_laws.proofs.Operands.{AreBits, FitsComponent, operand_typed, value_got}
 use Rattle.machine_laws.proofs.Words.{Stretch, front_stands, behind, plain_stands, behind_call, behind_items, Reaches, reaches_here, reaches_of, reaches_on, lead_on}
 use Rattle.machine_laws.proofs.Answering.{RowAt, works, needing_answers, after_lead}

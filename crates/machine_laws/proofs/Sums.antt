@@ -1,6 +1,6 @@
 -- Sums, differences, products, complements and conversions: what the instructions compute is the form of the result.
-use Rattle.std.proofs.Common.{◌≡◌, ℕ, zero, suc, ◌+◌, ◌-◌, ◌*◌, ◌/◌, ◌%◌, ◌^◌, ◌<◌, ◌≤◌, ℤ, pos, negsuc, neg_ℤ, ◌+ℤ◌, ◌-ℤ◌, ◌*ℤ◌, Bool, true, false, cond, List, [], ◌∷◌, Option, Some, None, refl, sym, ap, ap₂, ◌∙◌, subst, arith}
-use Rattle.std.specs.Prelude.{nat_lt, bit_xor, ◌==◌}
+use Rattle.std.proofs.Common.{◌≡◌, ℕ, zero, suc, ◌+◌, ◌-◌, ◌*◌, ◌/◌, ◌%◌, ◌^◌, ◌<◌, ℤ, pos, negsuc, neg_ℤ, ◌+ℤ◌, ◌-ℤ◌, ◌*ℤ◌, [], ◌∷◌, Some, refl, sym, ap, ap₂, ◌∙◌, subst, arith}
+use Rattle.std.specs.Prelude.{bit_xor, ◌==◌}
 use Rattle.std.specs.Ordering.{int_eq}
 use Rattle.std.proofs.Math.Nat.{mod-lt}
 use Rattle.std.proofs.Math.Pow.{pow_pos}
@@ -17,7 +17,7 @@ use Rattle.gimple_ir.specs.declared.types.Value.{Value}
 use Rattle.rv64_isa.specs.declared.instr.Instr.TheVariants.{Addw, Add, Subw, Sub, Mulw, Mul, Xori, Addiw, Slli, Srli}
 use Rattle.rv64_isa.specs.Format.{residue, signed, IsSigned}
 use Rattle.rv64_isa.proofs.FormatLaws.{signed-residue}
-use Rattle.rv64_meaning.specs.Arithmetic.{bits64, of_word, plus, add, sub, mul, sll, srl}
+use Rattle.rv64_meaning.specs.Arithmetic.{bits64, of_word, plus, add, sub, mul}
 use Rattle.rv64_select.specs.Operations.{operation, unary_operation, conversion}
 use Rattle.follow_laws.specs.Frames.{form_of}
 use Rattle.machine_laws.proofs.Types.{if_some, result_type}

@@ -1,25 +1,22 @@
 -- Rows of steps that test a value and jump: conditions and switches.
-use Rattle.std.proofs.Common.{◌≡◌, ℕ, ◌+◌, ◌-◌, ◌*◌, ◌%◌, ◌^◌, ◌<◌, ◌≤◌, ℤ, pos, ◌-ℤ◌, List, [], ◌∷◌, ◌++◌, length, Bool, true, false, cond, Option, Some, None, All, refl, sym, ap, ◌∙◌, subst, arith}
-use Rattle.std.specs.Prelude.{slice_get, slice_set, not, find, ◌==◌, if◌then◌else◌}
+use Rattle.std.proofs.Common.{◌≡◌, ℕ, ◌+◌, ◌-◌, ◌*◌, ◌^◌, ◌<◌, ℤ, pos, List, [], ◌∷◌, ◌++◌, length, Bool, true, false, cond, Option, Some, All, refl, sym, ap, ◌∙◌, subst, arith}
+use Rattle.std.specs.Prelude.{not, find, ◌==◌, if◌then◌else◌}
 use Rattle.std.specs.List.{flat_map}
 use Rattle.std.specs.Option.{option_map_or}
 use Rattle.std.specs.Ordering.{int_eq}
 use Rattle.std.proofs.lemmas.List.Elements.{All-head, All-tail}
 use Rattle.gimple_ir.specs.Values.{IsValue, binary_of}
-use Rattle.gimple_ir.specs.Statements.{is_comparison}
-use Rattle.gimple_ir.specs.declared.types.ScalarType.{ScalarType}
 use Rattle.gimple_ir.specs.declared.types.BinaryOp.{BinaryOp}
 use Rattle.gimple_ir.specs.declared.types.Case.{Case}
 use Rattle.gimple_ir.specs.declared.types.Operand.{Operand}
 use Rattle.gimple_ir.specs.declared.types.Value.{Value}
-use Rattle.gimple_ir.specs.declared.versioned.Step.{Step}
 use Rattle.gimple_ir.specs.declared.versioned.Step.TheVariants.{Cond, Switch}
 use Rattle.gimple_ir.specs.declared.versioned.VersionedFunction.{VersionedFunction}
 use Rattle.gimple_meaning.specs.Acts.{Goes, needing, value_at, operation_of, case_label}
-use Rattle.gimple_meaning.specs.Systems.{Frame, Machine, moved, store_of}
+use Rattle.gimple_meaning.specs.Systems.{Frame, moved, store_of}
 use Rattle.gimple_meaning.specs.Steps.{place_of}
 use Rattle.rv64_isa.specs.declared.instr.Instr.{Instr}
-use Rattle.rv64_isa.specs.declared.instr.Instr.TheVariants.{Jal, Bne}
+use Rattle.rv64_isa.specs.declared.instr.Instr.TheVariants.{Bne}
 use Rattle.rv64_meaning.specs.Arithmetic.{plus, bits64}
 use Rattle.rv64_meaning.specs.Machine.{Segments, State, Go, effect, goto, branch}
 use Rattle.rv64_frame.specs.Frames.{frame_of}
@@ -28,7 +25,7 @@ use Rattle.rv64_select.specs.declared.item.Item.TheVariants as item
 use Rattle.rv64_select.specs.Operations as selected
 use Rattle.rv64_select.specs.Templates.{constant, machine_form}
 use Rattle.rv64_select.specs.Assembly.{plain, operand_in, type_of, case_items}
-use Rattle.rv64_select.specs.Versioned.{OperandFits, LabelFits, StepFits}
+use Rattle.rv64_select.specs.Versioned.{LabelFits, StepFits}
 use Rattle.follow_laws.specs.Relation.{StandsAt, ComesTo}
 use Rattle.follow_laws.specs.Effects.{with_register}
 use Rattle.follow_laws.specs.Frames.{form_of}
@@ -42,7 +39,7 @@ use Rattle.machine_laws.specs.Relation.{Holds, AtFrame}
 use Rattle.machine_laws.proofs.Lists.{all_at}
 use Rattle.machine_laws.proofs.Places.{place_near}
 use Rattle.machine_laws.proofs.Operands.{operand_typed, holds_on, value_got}
-use Rattle.machine_laws.proofs.Words.{Stretch, front_stands, behind, grouped, jump_stands, behind_jump, Reaches, reaches_here, lead_on, come_on}
+use Rattle.machine_laws.proofs.Words.{Stretch, front_stands, behind, grouped, jump_stands, behind_jump}
 use Rattle.machine_laws.proofs.Answering.{RowAt, works, needing_answers}
 use Rattle.machine_laws.proofs.Types.{operation_is}
 use Rattle.machine_laws.proofs.PlainRows.{stretch, jumps}

@@ -1,9 +1,8 @@
 -- Rows of steps that compute a value: unary and binary operations, and conversions.
-use Rattle.std.proofs.Common.{◌≡◌, ℕ, ◌+◌, ◌-◌, ◌*◌, ◌%◌, ◌^◌, ◌<◌, ◌≤◌, ℤ, List, [], ◌∷◌, ◌++◌, length, Bool, true, Option, Some, None, refl, sym, ap, ◌∙◌, subst, arith}
+use Rattle.std.proofs.Common.{◌≡◌, ℕ, ◌+◌, ◌-◌, ℤ, List, [], ◌++◌, length, Option, Some, refl, sym, ap, ◌∙◌, subst}
 use Rattle.std.specs.Prelude.{slice_get, slice_set, unwrap_or}
 use Rattle.gimple_ir.specs.Values.{IsValue, unary_of, binary_of, convert_of, TypesFit}
 use Rattle.gimple_ir.proofs.WellFormed.{reduced-InRange, unary_of-IsValue, binary_of-IsValue}
-use Rattle.gimple_ir.specs.Programs.{IsOperand}
 use Rattle.gimple_ir.specs.Statements.{binary_fits}
 use Rattle.gimple_ir.specs.declared.types.ScalarType.{ScalarType}
 use Rattle.gimple_ir.specs.declared.types.ScalarType.TheVariants.{Int}
@@ -11,11 +10,10 @@ use Rattle.gimple_ir.specs.declared.types.UnaryOp.{UnaryOp}
 use Rattle.gimple_ir.specs.declared.types.BinaryOp.{BinaryOp}
 use Rattle.gimple_ir.specs.declared.types.Operand.{Operand}
 use Rattle.gimple_ir.specs.declared.types.Value.{Value}
-use Rattle.gimple_ir.specs.declared.versioned.Step.{Step}
 use Rattle.gimple_ir.specs.declared.versioned.Step.TheVariants.{Unary, Convert, Binary}
 use Rattle.gimple_ir.specs.declared.versioned.VersionedFunction.{VersionedFunction}
 use Rattle.gimple_meaning.specs.Acts.{needing, sets, value_at, operation_of}
-use Rattle.gimple_meaning.specs.Systems.{Frame, Machine, moved, store_of}
+use Rattle.gimple_meaning.specs.Systems.{Frame, moved, store_of}
 use Rattle.rv64_isa.specs.declared.instr.Instr.{Instr}
 use Rattle.rv64_meaning.specs.Machine.{Segments, State}
 use Rattle.rv64_frame.specs.Frames.{frame_of}
@@ -27,7 +25,7 @@ use Rattle.follow_laws.specs.Relation.{ComesTo}
 use Rattle.follow_laws.specs.Effects.{Differ}
 use Rattle.follow_laws.specs.Frames.{form_of}
 use Rattle.follow_laws.proofs.WayLaws.{reach_on}
-use Rattle.machine_laws.specs.Linked.{LinkedProgram, linked_code, linked_system}
+use Rattle.machine_laws.specs.Linked.{LinkedProgram, linked_system}
 use Rattle.machine_laws.specs.Typed.{ProgramTyped}
 use Rattle.machine_laws.specs.Layouts.{Layout, IsPlaced, places_in, place_address}
 use Rattle.machine_laws.specs.Relation.{Holds, AtFrame}
@@ -35,7 +33,7 @@ use Rattle.machine_laws.proofs.Lists.{all_at}
 use Rattle.machine_laws.proofs.Operands.{AreBits, FitsComponent, operand_typed, holds_on, value_got, value_set}
 use Rattle.machine_laws.proofs.Words.{Stretch, front_stands, behind, plain_stands, plain_ends, reaches_here, lead_on, come_on}
 use Rattle.machine_laws.proofs.Answering.{RowAt, works, needing_answers}
-use Rattle.machine_laws.proofs.Computing.{Computed, Computes}
+use Rattle.machine_laws.proofs.Computing.{Computes}
 use Rattle.machine_laws.proofs.Types.{if_some, unary_type, binary_type, given_type, Fit, fit_of, operation_is}
 use Rattle.machine_laws.proofs.PlainRows.{stretch, arrived}
 

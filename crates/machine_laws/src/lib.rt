@@ -1,11 +1,12 @@
 //! That the image of a program follows it, step by step: functions that do nothing, whose clauses are the laws.
 //!
 //! In specs/, `Linked` has a program of versions as a system, `Typed` what it is for one to be well formed, `Layouts` where its
-//! image has what, `Relation` the one relation between a state of the run and a state of the machine, and `Rows` what each row of
-//! the step table keeps of it.
+//! image has what, `Relation` the one relation between a state of the run and a state of the machine, `Rows` what each row of the
+//! step table keeps of it, and `Starts` that the machine follows the program from its start.
 #![tactic(auto)]
 
-ghost use Rattle.machine_laws.specs.Rows.{NopRow, LabelRow, GotoRow, CopiesRow, UnaryRow, ConvertRow, SwitchRow, PutcharRow, GetcharRow, ExitRow, CallRow, ReturnRow};
+ghost use Rattle.machine_laws.specs.Rows.{NopRow, LabelRow, GotoRow, CopiesRow, UnaryRow, ConvertRow, BinaryRow, CondRow, SwitchRow, LoadRow, StoreRow, PutcharRow, GetcharRow, ExitRow, CallRow, ReturnRow};
+ghost use Rattle.machine_laws.specs.Starts.{MachineFollows};
 
 /// The rows of steps that move within a function: those without words, jumps, and copies of components.
 pub fn plain_rows()
@@ -37,4 +38,9 @@ pub fn builtin_rows()
 pub fn call_rows()
     ensures call { CallRow }
     ensures give { ReturnRow }
+{}
+
+/// The rows joined: from the start of its run the machine follows the program, once the rows of the other steps stand too.
+pub fn joined_rows()
+    ensures { BinaryRow → CondRow → LoadRow → StoreRow → MachineFollows }
 {}

@@ -1,4 +1,7 @@
 -- The rows of all forms of a step.
+use Rattle.std.proofs.Common.{◌≡◌, true}
+use Rattle.gimple_ir.specs.Statements.{is_comparison}
+use Rattle.gimple_ir.specs.declared.types.BinaryOp.{BinaryOp}
 use Rattle.gimple_ir.specs.declared.types.UnaryOp.{UnaryOp}
 use Rattle.gimple_ir.specs.declared.types.UnaryOp.TheVariants as unary
 use Rattle.gimple_ir.specs.declared.versioned.Step.TheVariants.{Nop, Label, Goto, Cond, Switch, Return, Copies, Unary, Convert, Binary, Load, Store, Call, Putchar, Getchar, Exit}
@@ -6,8 +9,8 @@ use Rattle.machine_laws.specs.Rows.{NopRow, LabelRow, GotoRow, CopiesRow, UnaryR
 use Rattle.machine_laws.specs.Starts.{MachineFollows}
 use Rattle.machine_laws.proofs.Answering.{row}
 use Rattle.machine_laws.proofs.PlainRows.{nop_at, label_at, goto_at, copies_at}
-use Rattle.machine_laws.proofs.ValueRows.{UnaryComputes, unary_at, convert_at}
-use Rattle.machine_laws.proofs.TestRows.{switch_at}
+use Rattle.machine_laws.proofs.ValueRows.{UnaryComputes, BinaryComputes, unary_at, convert_at, binary_at}
+use Rattle.machine_laws.proofs.TestRows.{ComparisonBranches, cond_at, switch_at}
 use Rattle.machine_laws.proofs.BuiltinRows.{putchar_at, getchar_at, exit_at}
 use Rattle.machine_laws.proofs.ReturnRows.{return_at}
 use Rattle.machine_laws.proofs.CallRows.{call_at}
@@ -35,6 +38,13 @@ unary_row to op x m l p w typed q s = row m l p (Unary to op x) (unary_at m l p 
 
 pub convert_row : ConvertRow
 convert_row to x m l p w typed q s = row m l p (Convert to x) (convert_at m l p w typed to x convert_computes) q s
+
+-- a binary operation and a condition, once each operator is known to compute
+pub binary_row : ((op : BinaryOp) → BinaryComputes op) → BinaryRow
+binary_row computes to op x y m l p w typed q s = row m l p (Binary to op x y) (binary_at m l p w typed to op x y (computes op)) q s
+
+pub cond_row : ((op : BinaryOp) → is_comparison op ≡ true → ComparisonBranches op) → CondRow
+cond_row branches op x y met missed m l p w typed q s = row m l p (Cond op x y met missed) (cond_at m l p w typed op x y met missed (branches op)) q s
 
 pub switch_row : SwitchRow
 switch_row on cases otherwise m l p w typed q s = row m l p (Switch on cases otherwise) (switch_at m l p w typed on cases otherwise same_forms) q s

@@ -2,7 +2,7 @@
 use Rattle.std.proofs.Common.{◌≡◌, ℕ, ◌+◌, List, [], ◌∷◌, Option, Some, None, refl, sym, ap, ◌∙◌, subst, arith}
 use Rattle.std.specs.Prelude.{slice_get, unwrap_or}
 use Rattle.std.specs.Option.{option_map, option_and_then}
-use Rattle.std.proofs.lemmas.Option.{slice_get-map}
+use Rattle.std.proofs.lemmas.Option.{slice_get-map, none-some}
 use Rattle.gimple_ir.specs.declared.types.Value.{Value}
 use Rattle.gimple_ir.specs.declared.lattice.Binding.{Binding}
 use Rattle.gimple_ir.specs.declared.versioned.Step.{Step}
@@ -125,9 +125,6 @@ module _ (m : Segments) (l : Layout) (p : LinkedProgram) (w : IsPlaced m l p) (t
         written = k.output ∙ a.written;
       } in
       entry_run m l p w typed [] (first_arrays p.arrays) input [] p.main f first_return [] u ready known k.place (λ j v e. absurd (none-some v e)) (omega (arith, k.stack)) (nothing_taken f known))
-    where
-      none-some : (v : Value) → None ≡ Some v → ⊥
-      none-some v h = cc
 
   pub start_follows : AllRows → (input : List ℕ) (s : State) → AtStart m l p input s → RunFollows (λ k. exec m k s) (linked_run p input)
   start_follows rows input s a =

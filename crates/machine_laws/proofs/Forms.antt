@@ -19,6 +19,7 @@ use Rattle.rv64_meaning.specs.Arithmetic.{bits64, of_word, add, sub, mul}
 use Rattle.rv64_select.specs.Templates.{machine_form}
 use Rattle.rv64_select.specs.Operations.{by_type}
 use Rattle.follow_laws.specs.Frames.{form_of}
+use Rattle.machine_laws.proofs.Lists.{some_same}
 
 -- the bits of a number in its type
 abbrev pub low_of : ScalarType → ℤ → ℕ
@@ -172,20 +173,17 @@ from_low LongUnsignedInt n h = grind (arith, ints)
 pub reduced_low : (ty : ScalarType) (z : ℤ) → low_of ty (reduced ty z) ≡ low_of ty z
 reduced_low ty z = ap (λ n. low_of ty (from_residue ty n)) (residue_same ty z) ∙ from_low ty (low_of ty z) (low_lt ty z)
 
-some_value : (u v : Value) → Some u ≡ Some v → u ≡ v
-some_value u v e = cc
-
 -- what a sum, difference or product gives has its bits
 pub result_low : (ty : ScalarType) (z : ℤ) (r : Value) → result_of ty z ≡ Some r → low_of ty r.num ≡ low_of ty z
 result_low Int z r e = tested (in_range Int z) e
   where
     tested : (t : Bool) → (if t then Some (value_of Int z) else None) ≡ Some r → low_of Int r.num ≡ low_of Int z
-    tested true h = ap (λ (v : Value). low_of Int v.num) (sym (some_value (value_of Int z) r h))
+    tested true h = ap (λ (v : Value). low_of Int v.num) (sym (some_same (value_of Int z) r h))
     tested false h = cc
-result_low UnsignedInt z r e = ap (λ (v : Value). low_of UnsignedInt v.num) (sym (some_value (value_of UnsignedInt (reduced UnsignedInt z)) r e)) ∙ reduced_low UnsignedInt z
+result_low UnsignedInt z r e = ap (λ (v : Value). low_of UnsignedInt v.num) (sym (some_same (value_of UnsignedInt (reduced UnsignedInt z)) r e)) ∙ reduced_low UnsignedInt z
 result_low LongInt z r e = tested (in_range LongInt z) e
   where
     tested : (t : Bool) → (if t then Some (value_of LongInt z) else None) ≡ Some r → low_of LongInt r.num ≡ low_of LongInt z
-    tested true h = ap (λ (v : Value). low_of LongInt v.num) (sym (some_value (value_of LongInt z) r h))
+    tested true h = ap (λ (v : Value). low_of LongInt v.num) (sym (some_same (value_of LongInt z) r h))
     tested false h = cc
-result_low LongUnsignedInt z r e = ap (λ (v : Value). low_of LongUnsignedInt v.num) (sym (some_value (value_of LongUnsignedInt (reduced LongUnsignedInt z)) r e)) ∙ reduced_low LongUnsignedInt z
+result_low LongUnsignedInt z r e = ap (λ (v : Value). low_of LongUnsignedInt v.num) (sym (some_same (value_of LongUnsignedInt (reduced LongUnsignedInt z)) r e)) ∙ reduced_low LongUnsignedInt z

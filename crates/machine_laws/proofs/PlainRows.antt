@@ -1,5 +1,5 @@
 -- Rows of steps that move within a function: those without words, jumps, and copies of components.
-use Rattle.std.proofs.Common.{◌≡◌, ℕ, suc, ◌+◌, ◌-◌, ◌*◌, ◌^◌, ◌<◌, ℤ, pos, negsuc, ◌-ℤ◌, List, [], ◌∷◌, ◌++◌, length, Option, Some, All, inl, inr, refl, sym, ap, ◌∙◌, subst, arith, append-nil}
+use Rattle.std.proofs.Common.{◌≡◌, ℕ, suc, ◌+◌, ◌-◌, ◌^◌, ◌<◌, ℤ, pos, negsuc, ◌-ℤ◌, List, [], ◌∷◌, ◌++◌, length, Option, Some, All, inl, inr, refl, sym, ap, ◌∙◌, subst, arith, append-nil}
 use Rattle.std.specs.Prelude.{slice_get, slice_set}
 use Rattle.std.specs.List.{flat_map}
 use Rattle.std.proofs.lemmas.Bool.{cases_lt}
@@ -32,7 +32,7 @@ use Rattle.machine_laws.specs.Relation.{Holds, AtFrame, Answers}
 use Rattle.machine_laws.proofs.Lists.{all_at}
 use Rattle.machine_laws.proofs.Places.{here, place_near, label_lands, place_linked}
 use Rattle.machine_laws.proofs.Operands.{operand_typed, holds_on, value_got, value_set, FitsComponent}
-use Rattle.machine_laws.proofs.Words.{Stretch, front_stands, behind, grouped, Reaches, reaches_here, reaches_of, reaches_on, lead_on}
+use Rattle.machine_laws.proofs.Words.{Stretch, front_stands, behind, grouped, Reaches, reaches_here, reaches_of, reaches_on, lead_on, ended}
 use Rattle.machine_laws.proofs.Answering.{RowAt, works, rests}
 
 -- a jump lands at its target
@@ -166,6 +166,3 @@ module _ (m : Segments) (l : Layout) (p : LinkedProgram) (w : IsPlaced m l p) (t
       (λ t j. reaches_on m t _ _ (copies_run g f older q.arrays q.input q.output (slice_set cells c.to (value_at cells c.from)) place cs t j.holds
       (All-tail (λ c. ComponentFits f c.to × OperandFits f c.from) c cs fit) (All-tail (λ c. IsOperand c.from × (type_of f c.from ≡ type_of_component f c.to)) c cs types) j.stretch)
       (λ u k. reaches_here m u _ (arrived frame older q.arrays q.input q.output f (copied cells (c ∷ cs)) (frame.place + 1) u k.holds (ended u.pc place k.stretch.ends)))))
-    where
-      ended : (here there : ℕ) → there ≡ here + 4 * 0 → here ≡ there
-      ended here there h = omega (arith, h)

@@ -25,6 +25,7 @@ use Rattle.machine_laws.proofs.Computing.{Computes, computes_none, computes_by, 
 use Rattle.machine_laws.proofs.Forms.{low_of, low_lt, residue_same, settled, settled_form, settled_value, form_low, form_below, low_sum, low_product, low_negative, add_low, sub_low, mul_low, from_low, reduced_low, result_low}
 use Rattle.machine_laws.proofs.ValueRows.{UnaryComputes, ConversionComputes, BinaryComputes}
 use Rattle.machine_laws.proofs.TestRows.{SameForms}
+use Rattle.machine_laws.proofs.Lists.{some_same}
 
 -- the low bits of a second operand of the same type
 low_at : (ty : ScalarType) (u : Value) → ty ≡ u.ty → form_of u % modulus ty ≡ low_of ty u.num
@@ -149,15 +150,12 @@ turned_settled UnsignedInt f h e = word_turned f h e
 turned_settled LongInt f h e = refl
 turned_settled LongUnsignedInt f h e = refl
 
-some_value : (u v : Value) → Some u ≡ Some v → u ≡ v
-some_value u v e = cc
-
 pub not_computes : UnaryComputes unary.Not
 not_computes v r b nv e =
     let ty = v.ty in
     let f = form_of v in
     let n = modulus ty - 1 - values.residue ty v.num in
-    let made = some_value (value_of ty (from_residue ty n)) r e in
+    let made = some_same (value_of ty (from_residue ty n)) r e in
     let x = 2 ^ 64 - 1 - f in
     let small = low_lt ty v.num in
     let same = residue_same ty v.num in

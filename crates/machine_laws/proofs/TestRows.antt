@@ -6,6 +6,7 @@ use Rattle.std.specs.Option.{option_map_or}
 use Rattle.std.specs.Ordering.{int_eq}
 use Rattle.std.proofs.lemmas.List.Elements.{All-head, All-tail}
 use Rattle.gimple_ir.specs.Values.{IsValue, binary_of}
+use Rattle.gimple_ir.specs.Statements.{is_comparison}
 use Rattle.gimple_ir.specs.declared.types.BinaryOp.{BinaryOp}
 use Rattle.gimple_ir.specs.declared.types.Case.{Case}
 use Rattle.gimple_ir.specs.declared.types.Operand.{Operand}
@@ -173,7 +174,7 @@ module _ (m : Segments) (l : Layout) (p : LinkedProgram) (w : IsPlaced m l p) (t
 -- ---- the rows
 
 module _ (m : Segments) (l : Layout) (p : LinkedProgram) (w : IsPlaced m l p) (typed : ProgramTyped p) where
-  pub cond_at : (op : BinaryOp) (x y : Operand) (met missed : ℕ) → ComparisonBranches op → RowAt m l p (Cond op x y met missed)
+  pub cond_at : (op : BinaryOp) (x y : Operand) (met missed : ℕ) → (is_comparison op ≡ true → ComparisonBranches op) → RowAt m l p (Cond op x y met missed)
   cond_at op x y met missed branches q frame older s a e =
       let f = a.function in
       let g = frame.function in
@@ -192,7 +193,7 @@ module _ (m : Segments) (l : Layout) (p : LinkedProgram) (w : IsPlaced m l p) (t
       (λ r er.
       let kind_x = operand_typed f cells x v a.holds.newest.typed ev types.0 in
       let kind_y = operand_typed f cells y u a.holds.newest.typed eu types.1 in
-      let b = branches v u r kind_x.1 kind_y.1 (kind_x.0 ∙ types.3 ∙ sym kind_y.0) (operation_is op v u r er) in
+      let b = branches types.2 v u r kind_x.1 kind_y.1 (kind_x.0 ∙ types.3 ∙ sym kind_y.0) (operation_is op v u r er) in
       let code = selected.branch op (type_of f x) in
       let alone : code ≡ b.instruction ∷ [] = ap (selected.branch op) (sym kind_x.0) ∙ b.alone in
       let jumps_items = item.Jump missed ∷ (item.Jump met ∷ []) in

@@ -29,7 +29,7 @@ use Rattle.machine_laws.specs.Linked.{LinkedProgram, linked_system}
 use Rattle.machine_laws.specs.Typed.{ProgramTyped}
 use Rattle.machine_laws.specs.Layouts.{Layout, IsPlaced, places_in, place_address}
 use Rattle.machine_laws.specs.Relation.{Holds, AtFrame}
-use Rattle.machine_laws.proofs.Lists.{all_at}
+use Rattle.machine_laws.proofs.Lists.{all_at, some_same}
 use Rattle.machine_laws.proofs.Operands.{AreBits, FitsComponent, operand_typed, holds_on, value_got, value_set}
 use Rattle.machine_laws.proofs.Words.{Stretch, front_stands, behind, plain_stands, plain_ends, reaches_here, lead_on, come_on}
 use Rattle.machine_laws.proofs.Answering.{RowAt, works, needing_answers}
@@ -42,9 +42,6 @@ pub record ResultOf (code : List Instr) (a b : ℕ) (type : ScalarType) (r : Val
   pub computes : Computes code a b (form_of r)
   pub type_is : r.ty ≡ type
   pub number : IsValue r
-
-some_value : (u v : Value) → Some u ≡ Some v → v ≡ u
-some_value u v e = cc
 
 module _ (m : Segments) (l : Layout) (p : LinkedProgram) (w : IsPlaced m l p) (typed : ProgramTyped p) (frame : Frame) (older : List Frame) (arrays : List (List ℤ)) (input output : List ℕ) (f : VersionedFunction) where
   -- a register into the component of a step, which is then done
@@ -70,8 +67,8 @@ module _ (m : Segments) (l : Layout) (p : LinkedProgram) (w : IsPlaced m l p) (t
       come_on m u _ _ (result.computes m u t0 t1 (front_stands m places u.pc end code set items))
       (λ t k.
       let held = holds_on m l p w frame.function f older arrays input output cells u t h (k.others 2 refl) k.mem k.input k.output in
-      let is : AreBits (Some r) (t.reg 5) = λ v e. k.value ∙ ap form_of (sym (some_value r v e)) in
-      let fits : FitsComponent f to (Some r) = λ v e. let same = sym (some_value r v e) in (ap (λ (x : Value). x.ty) (sym same) ∙ result.type_is, subst IsValue same result.number) in
+      let is : AreBits (Some r) (t.reg 5) = λ v e. k.value ∙ ap form_of (some_same r v e) in
+      let fits : FitsComponent f to (Some r) = λ v e. let same = some_same r v e in (ap (λ (x : Value). x.ty) (sym same) ∙ result.type_is, subst IsValue same result.number) in
       assigns cells t to 5 (Some r) held inside is fits refl refl (behind m places u.pc end t.pc code set items k.place))
 
   -- of one operand

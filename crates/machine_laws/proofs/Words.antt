@@ -75,6 +75,10 @@ behind_items m places at end xs ys h =
       ends = omega (arith, h.ends, ap length parts, length-append front back, len);
     }
 
+-- no words are left before an end
+pub ended : (at end : ℕ) → end ≡ at + 4 * 0 → at ≡ end
+ended at end h = omega (arith, h)
+
 -- ---- ways
 
 -- from s the machine comes to some state of which P holds, or is in one

@@ -34,7 +34,8 @@ use Rattle.rv64_select.proofs.Laying.{words-append, words-plain}
 use Rattle.rv64_select.specs.Versioned.{ComponentFits, OperandFits, StepFits}
 use Rattle.follow_laws.specs.Relation.{StandsAt, ComesTo, Leads}
 use Rattle.follow_laws.specs.Effects.{with_register, called}
-use Rattle.follow_laws.specs.Frames.{form_of, FrameHeld}
+use Rattle.follow_laws.specs.Follows.{AreBytes}
+use Rattle.follow_laws.specs.Frames.{form_of}
 use Rattle.follow_laws.specs.Selections.{address_of}
 use Rattle.follow_laws.proofs.WayLaws.{reach_on, leads_twice, stands_front}
 use Rattle.follow_laws.proofs.TemplateLaws.{set_other, constant_sets, load_sets, store_stores, call_goes, enter_makes_frame}
@@ -43,7 +44,7 @@ use Rattle.follow_laws.proofs.FrameLaws.{fresh_held}
 use Rattle.machine_laws.specs.Linked.{LinkedProgram, linked_code, linked_system, callee_number}
 use Rattle.machine_laws.specs.Typed.{AreTyped, ArgumentsTyped, ProgramTyped}
 use Rattle.machine_laws.specs.Layouts.{Layout, IsPlaced, FunctionPlaced, top, places_in, entry_code, place_address}
-use Rattle.machine_laws.specs.Relation.{FrameStands, WaitsFor, FramesWait, Holds, AtFrame, GoesOn, Answers}
+use Rattle.machine_laws.specs.Relation.{FrameStands, WaitsFor, FramesWait, ArraysHeld, Holds, AtFrame, GoesOn, Answers}
 use Rattle.machine_laws.proofs.Lists.{all_at}
 use Rattle.machine_laws.proofs.Memory.{SameFrom, SameBelow, store_kept, waiting_kept, arrays_kept}
 use Rattle.machine_laws.proofs.Frames.{Room, waiting_room, waiting_below, waiting_aligned, top_aligned, room_of, reached}
@@ -190,9 +191,9 @@ module _ (m : Segments) (l : Layout) (p : LinkedProgram) (w : IsPlaced m l p) (t
   -- ---- the entry
 
   -- what is asked of a binding of a component
-  record BindingFits (f : VersionedFunction) (args : List (Option Value)) (k : ℕ) (b : Binding) : Type 0 where
-    argument : (i : ℕ) → b ≡ binding.Arg i → (i < length args) × FitsComponent f k (cell args i)
-    constant_fits : (v : Value) → b ≡ binding.Const v → (v.ty ≡ type_of_component f k) × IsValue v
+  pub record BindingFits (f : VersionedFunction) (args : List (Option Value)) (k : ℕ) (b : Binding) : Type 0 where
+    pub argument : (i : ℕ) → b ≡ binding.Arg i → (i < length args) × FitsComponent f k (cell args i)
+    pub constant_fits : (v : Value) → b ≡ binding.Const v → (v.ty ≡ type_of_component f k) × IsValue v
 
   -- parameters are bound, and the code behind
   record BoundTo (g : ℕ) (f : VersionedFunction) (cells : List (Option Value)) (older : List Frame) (arrays : List (List ℤ)) (input output : List ℕ) (args : List (Option Value)) (base end : ℕ) (rest : List Item) (t : State) : Type 0 where
@@ -217,7 +218,7 @@ module _ (m : Segments) (l : Layout) (p : LinkedProgram) (w : IsPlaced m l p) (t
         holds = subst (λ (x : List (Option Value)). Holds l p g f x older arrays input output t) same c.holds;
         stack = c.others 2 refl ∙ sp;
         given = λ j v e.
-        ap (λ (x : ℕ → ℕ). load 8 x (up + 8 * j)) c.mem.1 ∙ load_apart 8 8 u.mem (u.reg 2 + component_slot f k) c.mem.0 (up + 8 * j) (inr (omega (arith, sp, inside))) ∙ given j v e;
+            ap (λ (x : ℕ → ℕ). load 8 x (up + 8 * j)) c.mem.1 ∙ load_apart 8 8 u.mem (u.reg 2 + component_slot f k) c.mem.0 (up + 8 * j) (inr (omega (arith, sp, inside))) ∙ given j v e;
         code = behind m places u.pc end t.pc set rest items c.place;
       }))
 
@@ -304,21 +305,30 @@ module _ (m : Segments) (l : Layout) (p : LinkedProgram) (w : IsPlaced m l p) (t
     place : t.pc ≡ u.pc + 4 * length (enter_code (frame_size f) (return_slot f))
     mem : (bits : ℕ) × (t.mem ≡ store 8 u.mem (t.reg 2 + return_slot f) bits)
 
-  enter_run : (frame : Frame) (f : VersionedFunction) (older : List Frame) (arrays : List (List ℤ)) (input output : List ℕ) (g : ℕ) (fn : VersionedFunction) (back : ℕ) (u : State)
-      → Holds l p frame.function f frame.components older arrays input output u → WaitsFor l p frame f g back → slice_get p.functions g ≡ Some fn → suc (length older) < most_frames → u.reg 1 ≡ back → back < 2 ^ 64
-      → StandsAt m u.pc (enter_code (frame_size fn) (return_slot fn)) → ComesTo m u (Entering g fn (frame ∷ older) arrays input output u)
-  enter_run frame f older arrays input output g fn back u h waits known deep ra far code =
+  -- a function is about to be entered: its caller's frames wait, and the return address is in ra
+  pub record Ready (g back : ℕ) (frames : List Frame) (arrays : List (List ℤ)) (input output : List ℕ) (u : State) : Type 0 where
+    pub waiting : FramesWait l p u.mem g (u.reg 2) back frames
+    pub room : length frames < most_frames
+    pub return_address : u.reg 1 ≡ back
+    pub far : back < 2 ^ 64
+    pub arrays_held : ArraysHeld l p u.mem arrays
+    pub input_left : u.input ≡ input
+    pub input_bytes : AreBytes input
+    pub written : u.output ≡ output
+
+  enter_run : (frames : List Frame) (arrays : List (List ℤ)) (input output : List ℕ) (g : ℕ) (fn : VersionedFunction) (back : ℕ) (u : State)
+      → Ready g back frames arrays input output u → slice_get p.functions g ≡ Some fn → StandsAt m u.pc (enter_code (frame_size fn) (return_slot fn)) → ComesTo m u (Entering g fn frames arrays input output u)
+  enter_run frames arrays input output g fn back u h known code =
       let size = frame_size fn in
       let slot = return_slot fn in
       let up = u.reg 2 in
       let base = up - size in
-      let waiting : FramesWait l p u.mem g up back (frame ∷ older) = (f, h.back, h.newest, waits, h.waiting) in
-      let high = waiting_room m l p u.mem g up back (frame ∷ older) w waiting in
-      let few = mul-le (suc (suc (length older))) l.frame 4096 l.frame deep (omega arith) in
-      let step : suc (suc (length older)) * l.frame ≡ l.frame + suc (length older) * l.frame = omega arith in
+      let high = waiting_room m l p u.mem g up back frames w h.waiting in
+      let few = mul-le (suc (length frames)) l.frame 4096 l.frame h.room (omega arith) in
+      let step : suc (length frames) * l.frame ≡ l.frame + length frames * l.frame = omega arith in
       let largest = (w.functions g fn known).size in
-      let below = waiting_below l p u.mem g up back (frame ∷ older) waiting in
-      let aligned = waiting_aligned l p u.mem g up back (frame ∷ older) (top_aligned m l p w) waiting in
+      let below = waiting_below l p u.mem g up back frames h.waiting in
+      let aligned = waiting_aligned l p u.mem g up back frames (top_aligned m l p w) h.waiting in
       let room : Room l fn base = record { above = omega (arith, high, few, step, largest); below = omega (arith, below, high, few, step, largest); aligned = omega (arith, aligned, high, few, step, largest) } in
       let small : size ≤ up = omega (arith, high, few, step, largest) in
       let joined : base + size ≡ up = omega (arith, small) in
@@ -327,8 +337,8 @@ module _ (m : Segments) (l : Layout) (p : LinkedProgram) (w : IsPlaced m l p) (t
       let t = c.state in
       let k = c.holds in
       let at = base + slot in
-      let stored : t.mem ≡ store 8 u.mem at back = k.mem ∙ ap (store 8 u.mem at) ra in
-      let saved : load 8 t.mem at ≡ back = ap (λ (x : ℕ → ℕ). load 8 x at) stored ∙ load_same 8 u.mem at back far in
+      let stored : t.mem ≡ store 8 u.mem at back = k.mem ∙ ap (store 8 u.mem at) h.return_address in
+      let saved : load 8 t.mem at ≡ back = ap (λ (x : ℕ → ℕ). load 8 x at) stored ∙ load_same 8 u.mem at back h.far in
       let newest : FrameStands p t.mem base back g fn (replicate (length fn.types) None) = record {
         known = known;
         held = fresh_held fn t.mem base back saved;
@@ -336,7 +346,7 @@ module _ (m : Segments) (l : Layout) (p : LinkedProgram) (w : IsPlaced m l p) (t
       } in
       let from : SameFrom up u.mem t.mem = λ y b. ap (λ (x : ℕ → ℕ). x y) stored ∙ store_kept 8 u.mem at back y (inr (omega (arith, b, joined))) in
       let low : SameBelow l.scratch u.mem t.mem = λ y b. ap (λ (x : ℕ → ℕ). x y) stored ∙ store_kept 8 u.mem at back y (inl (omega (arith, b, room.above, w.scratch_below))) in
-      let rest = waiting_kept l p u.mem t.mem g up back (frame ∷ older) from waiting in
+      let rest = waiting_kept l p u.mem t.mem g up back frames from h.waiting in
       let sp : base ≡ t.reg 2 = sym k.stack in
       record {
         state = t;
@@ -345,8 +355,8 @@ module _ (m : Segments) (l : Layout) (p : LinkedProgram) (w : IsPlaced m l p) (t
           holds = record {
             back = back;
             newest = subst (λ n. FrameStands p t.mem n back g fn (replicate (length fn.types) None)) sp newest;
-            waiting = subst (λ n. FramesWait l p t.mem g n back (frame ∷ older)) (omega (arith, joined, sp)) rest;
-            depth = omega (arith, deep);
+            waiting = subst (λ n. FramesWait l p t.mem g n back frames) (omega (arith, joined, sp)) rest;
+            depth = h.room;
             arrays_held = λ n i a z array kept there. arrays_kept m l p u.mem t.mem arrays w low h.arrays_held n i a z array kept there;
             input_left = k.input ∙ h.input_left;
             input_bytes = h.input_bytes;
@@ -359,11 +369,11 @@ module _ (m : Segments) (l : Layout) (p : LinkedProgram) (w : IsPlaced m l p) (t
       }
 
   -- the whole entry of a function
-  entry_run : (frame : Frame) (f : VersionedFunction) (older : List Frame) (arrays : List (List ℤ)) (input output : List ℕ) (g : ℕ) (fn : VersionedFunction) (back : ℕ) (args : List (Option Value)) (u : State)
-      → Holds l p frame.function f frame.components older arrays input output u → WaitsFor l p frame f g back → slice_get p.functions g ≡ Some fn → suc (length older) < most_frames → u.reg 1 ≡ back → back < 2 ^ 64
-      → u.pc ≡ l.address fn.symbol → ArgumentsHeld u.mem (u.reg 2) args → u.reg 2 + 8 * length args ≤ top l → ((i : ℕ) (b : Binding) → slice_get fn.bindings i ≡ Some b → BindingFits fn args (0 + i) b)
-      → ComesTo m u (AtFrame l p (fresh g (opened (linked_code p fn) args)) (frame ∷ older) arrays input output)
-  entry_run frame f older arrays input output g fn back args u h waits known deep ra far at given high fits =
+  pub entry_run : (frames : List Frame) (arrays : List (List ℤ)) (input output : List ℕ) (g : ℕ) (fn : VersionedFunction) (back : ℕ) (args : List (Option Value)) (u : State)
+      → Ready g back frames arrays input output u → slice_get p.functions g ≡ Some fn → u.pc ≡ l.address fn.symbol → ArgumentsHeld u.mem (u.reg 2) args → u.reg 2 + 8 * length args ≤ top l
+      → ((i : ℕ) (b : Binding) → slice_get fn.bindings i ≡ Some b → BindingFits fn args (0 + i) b)
+      → ComesTo m u (AtFrame l p (fresh g (opened (linked_code p fn) args)) frames arrays input output)
+  entry_run frames arrays input output g fn back args u h known at given high fits =
       let placed = w.functions g fn known in
       let places = places_in l fn in
       let end = body_at l fn in
@@ -373,13 +383,13 @@ module _ (m : Segments) (l : Layout) (p : LinkedProgram) (w : IsPlaced m l p) (t
       let first : Stretch m places (l.address fn.symbol) end (entry_items (frame_of fn) fn.bindings) = record { stands = stands; ends = refl } in
       let items = subst (λ n. Stretch m places n end (plain enter ++ rest)) (sym at) first in
       let params = (typed.functions g fn known).parameters in
-      lead_on m u _ _ (enter_run frame f older arrays input output g fn back u h waits known deep ra far (front_stands m places u.pc end enter rest items))
+      lead_on m u _ _ (enter_run frames arrays input output g fn back u h known (front_stands m places u.pc end enter rest items))
       (λ t k.
       let up : t.reg 2 + frame_size fn ≡ u.reg 2 = k.stack in
       let slot = t.reg 2 + return_slot fn in
       let given_t : ArgumentsHeld t.mem (t.reg 2 + frame_size fn) args = λ j v e.
       ap (λ (x : ℕ → ℕ). load 8 x (t.reg 2 + frame_size fn + 8 * j)) k.mem.1 ∙ load_apart 8 8 u.mem slot k.mem.0 (t.reg 2 + frame_size fn + 8 * j) (inr (omega arith)) ∙ ap (λ n. load 8 u.mem (n + 8 * j)) up ∙ given j v e in
-      reaches_on m t _ _ (bind_run g fn (frame ∷ older) arrays input output args [] fn.bindings 0 (length fn.types) (t.reg 2) end t refl (omega arith) params k.holds refl given_t (omega (arith, high, up)) fits (behind m places u.pc end t.pc enter rest items k.place))
+      reaches_on m t _ _ (bind_run g fn frames arrays input output args [] fn.bindings 0 (length fn.types) (t.reg 2) end t refl (omega arith) params k.holds refl given_t (omega (arith, high, up)) fits (behind m places u.pc end t.pc enter rest items k.place))
       (λ x r. reaches_here m x _ (record { function = fn; holds = r.holds; place = r.place ∙ sym (place_zero l fn); copies = tt })))
 
   -- ---- the row
@@ -413,14 +423,16 @@ module _ (m : Segments) (l : Layout) (p : LinkedProgram) (w : IsPlaced m l p) (t
       let same : i ≡ 0 + i = omega arith in
       subst (λ n. BindingFits fn (map (value_at cells) args) n b) same (record {
         argument = λ k is.
-        let found = some_and (λ a. type_of f a ≡ type_of_component fn i) (slice_get args k) (types i k (at ∙ ap Some is)) in
-        let a = found.0 in
-        let inside = slice_get_within args k a found.1 in
-        (omega (arith, inside, length-map args (value_at cells)), λ v e.
-        let c = cell-map cells args k v e in
-        let kind = operand_typed f cells c.0 v cells_typed c.2 (all_at IsOperand args k c.0 c.1 numbers) in
-        let which : c.0 ≡ a = some_operand c.0 a (sym c.1 ∙ found.1) in
-        (kind.0 ∙ ap (type_of f) which ∙ found.2, kind.1));
+            let found = some_and (λ a. type_of f a ≡ type_of_component fn i) (slice_get args k) (types i k (at ∙ ap Some is)) in
+            let a = found.0 in
+            let inside = slice_get_within args k a found.1 in (
+              omega (arith, inside, length-map args (value_at cells)),
+              λ v e.
+                  let c = cell-map cells args k v e in
+                  let kind = operand_typed f cells c.0 v cells_typed c.2 (all_at IsOperand args k c.0 c.1 numbers) in
+                  let which : c.0 ≡ a = some_operand c.0 a (sym c.1 ∙ found.1) in
+                  (kind.0 ∙ ap (type_of f) which ∙ found.2, kind.1),
+            );
         constant_fits = λ v is. (typed.functions g fn known).constants i v (at ∙ ap Some is);
       })
 
@@ -468,7 +480,17 @@ module _ (m : Segments) (l : Layout) (p : LinkedProgram) (w : IsPlaced m l p) (t
       let given : ArgumentsHeld u.mem (u.reg 2) values = λ j v ev.
       let first : j ≡ 0 + j = omega arith in
       ap (λ n. load 8 t.mem (n + 8 * j)) k.stack ∙ ap (λ n. load 8 t.mem (s.reg 2 + 8 * n)) first ∙ k.given j v ev in
-      let c = entry_run frame f older q.arrays q.input q.output g fn (t.pc + 8) values u held waits known_fn deep refl (omega (arith, after.ends, at.near)) refl given
+      let ready : Ready g (t.pc + 8) (frame ∷ older) q.arrays q.input q.output u = record {
+        waiting = (f, held.back, held.newest, waits, held.waiting);
+        room = deep;
+        return_address = refl;
+        far = omega (arith, after.ends, at.near);
+        arrays_held = held.arrays_held;
+        input_left = held.input_left;
+        input_bytes = held.input_bytes;
+        written = held.written;
+      } in
+      let c = entry_run (frame ∷ older) q.arrays q.input q.output g fn (t.pc + 8) values u ready known_fn refl given
       (omega (arith, k.stack, room.below, few, length-map args (value_at cells)))
       (bindings_fit g f fn cells args known_fn a.holds.newest.typed types.0 (types.2 fn (ap (slice_get p.functions) number ∙ known_fn))) in
       record { state = c.state; leads = leads_twice m t u c.state to_u c.leads; holds = c.holds })))))

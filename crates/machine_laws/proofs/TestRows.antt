@@ -5,7 +5,7 @@ use Rattle.std.specs.List.{flat_map}
 use Rattle.std.specs.Option.{option_map_or}
 use Rattle.std.specs.Ordering.{int_eq}
 use Rattle.std.proofs.lemmas.List.Elements.{All-head, All-tail}
-use Rattle.gimple_ir.specs.Values.{IsValue}
+use Rattle.gimple_ir.specs.Values.{IsValue, binary_of}
 use Rattle.gimple_ir.specs.Statements.{is_comparison}
 use Rattle.gimple_ir.specs.declared.types.ScalarType.{ScalarType}
 use Rattle.gimple_ir.specs.declared.types.BinaryOp.{BinaryOp}
@@ -44,6 +44,7 @@ use Rattle.machine_laws.proofs.Places.{place_near}
 use Rattle.machine_laws.proofs.Operands.{operand_typed, holds_on, value_got}
 use Rattle.machine_laws.proofs.Words.{Stretch, front_stands, behind, grouped, jump_stands, behind_jump, Reaches, reaches_here, lead_on, come_on}
 use Rattle.machine_laws.proofs.Answering.{RowAt, works, needing_answers}
+use Rattle.machine_laws.proofs.Types.{operation_is}
 use Rattle.machine_laws.proofs.PlainRows.{stretch, jumps}
 use Rattle.machine_laws.proofs.ValueRows.{both_got}
 
@@ -59,7 +60,7 @@ pub record Branches (code : List Instr) (a b : ℕ) (met : Bool) : Type 0 where
 
 abbrev pub ComparisonBranches : BinaryOp → Type 0
 ComparisonBranches op =
-    (v u r : Value) → IsValue v → IsValue u → v.ty ≡ u.ty → operation_of op v u ≡ Some r → Branches (selected.branch op v.ty) (form_of v) (form_of u) (is_met r)
+    (v u r : Value) → IsValue v → IsValue u → v.ty ≡ u.ty → binary_of op v u ≡ Some r → Branches (selected.branch op v.ty) (form_of v) (form_of u) (is_met r)
 
 -- equal numbers of one type have equal bits, and no others
 abbrev pub SameForms : Type 0
@@ -194,7 +195,7 @@ module _ (m : Segments) (l : Layout) (p : LinkedProgram) (w : IsPlaced m l p) (t
       (λ r er.
       let kind_x = operand_typed f cells x v a.holds.newest.typed ev types.0 in
       let kind_y = operand_typed f cells y u a.holds.newest.typed eu types.1 in
-      let b = branches v u r kind_x.1 kind_y.1 (kind_x.0 ∙ types.3 ∙ sym kind_y.0) er in
+      let b = branches v u r kind_x.1 kind_y.1 (kind_x.0 ∙ types.3 ∙ sym kind_y.0) (operation_is op v u r er) in
       let code = selected.branch op (type_of f x) in
       let alone : code ≡ b.instruction ∷ [] = ap (selected.branch op) (sym kind_x.0) ∙ b.alone in
       let jumps_items = item.Jump missed ∷ (item.Jump met ∷ []) in

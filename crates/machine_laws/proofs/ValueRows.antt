@@ -1,7 +1,8 @@
 -- Rows of steps that compute a value: unary and binary operations, and conversions.
 use Rattle.std.proofs.Common.{◌≡◌, ℕ, ◌+◌, ◌-◌, ◌*◌, ◌%◌, ◌^◌, ◌<◌, ◌≤◌, ℤ, List, [], ◌∷◌, ◌++◌, length, Bool, true, Option, Some, None, refl, sym, ap, ◌∙◌, subst, arith}
 use Rattle.std.specs.Prelude.{slice_get, slice_set, unwrap_or}
-use Rattle.gimple_ir.specs.Values.{IsValue, unary_of, convert_of}
+use Rattle.gimple_ir.specs.Values.{IsValue, unary_of, binary_of, convert_of, TypesFit}
+use Rattle.gimple_ir.proofs.WellFormed.{reduced-InRange, unary_of-IsValue, binary_of-IsValue}
 use Rattle.gimple_ir.specs.Programs.{IsOperand}
 use Rattle.gimple_ir.specs.Statements.{binary_fits}
 use Rattle.gimple_ir.specs.declared.types.ScalarType.{ScalarType}
@@ -35,6 +36,7 @@ use Rattle.machine_laws.proofs.Operands.{AreBits, FitsComponent, operand_typed, 
 use Rattle.machine_laws.proofs.Words.{Stretch, front_stands, behind, plain_stands, plain_ends, reaches_here, lead_on, come_on}
 use Rattle.machine_laws.proofs.Answering.{RowAt, works, needing_answers}
 use Rattle.machine_laws.proofs.Computing.{Computed, Computes}
+use Rattle.machine_laws.proofs.Types.{if_some, unary_type, binary_type, given_type, Fit, fit_of, operation_is}
 use Rattle.machine_laws.proofs.PlainRows.{stretch, arrived}
 
 -- a result that is of a type, and a number of it
@@ -125,15 +127,13 @@ module _ (m : Segments) (l : Layout) (p : LinkedProgram) (w : IsPlaced m l p) (t
 
 -- what is owed of a unary operator, of conversions and of a binary operator
 abbrev pub UnaryComputes : UnaryOp → Type 0
-UnaryComputes op = (v r : Value) (b : ℕ) → IsValue v → unary_of op v ≡ Some r → ResultOf (unary_operation op v.ty) (form_of v) b v.ty r
+UnaryComputes op = (v r : Value) (b : ℕ) → IsValue v → unary_of op v ≡ Some r → Computes (unary_operation op v.ty) (form_of v) b (form_of r)
 
 abbrev pub ConversionComputes : Type 0
-ConversionComputes = (to : ScalarType) (v : Value) (b : ℕ) → IsValue v → ResultOf (conversion to v.ty) (form_of v) b to (convert_of to v)
+ConversionComputes = (to : ScalarType) (v : Value) (b : ℕ) → IsValue v → Computes (conversion to v.ty) (form_of v) b (form_of (convert_of to v))
 
 abbrev pub BinaryComputes : BinaryOp → Type 0
-BinaryComputes op =
-    (to : ScalarType) (v u r : Value) → IsValue v → IsValue u → binary_fits op (Some to) (Some v.ty) (Some u.ty) ≡ true → operation_of op v u ≡ Some r
-    → ResultOf (operation op v.ty) (form_of v) (form_of u) to r
+BinaryComputes op = (v u r : Value) → IsValue v → IsValue u → TypesFit op v u → binary_of op v u ≡ Some r → Computes (operation op v.ty) (form_of v) (form_of u) (form_of r)
 
 module _ (m : Segments) (l : Layout) (p : LinkedProgram) (w : IsPlaced m l p) (typed : ProgramTyped p) where
   pub unary_at : (to : ℕ) (op : UnaryOp) (x : Operand) → UnaryComputes op → RowAt m l p (Unary to op x)
@@ -149,11 +149,40 @@ module _ (m : Segments) (l : Layout) (p : LinkedProgram) (w : IsPlaced m l p) (t
       (λ v ev. needing_answers m l p s left (linked_system p) q frame older (unary_of op v) (λ r. sets frame.place (store_of q frame) to r)
       (λ r er.
       let kind = operand_typed f cells x v a.holds.newest.typed ev types.0 in
-      let result : (b : ℕ) → ResultOf (unary_operation op (type_of f x)) (form_of v) b (type_of_component f to) r =
-      λ b. subst (λ ty. ResultOf (unary_operation op (type_of f x)) (form_of v) b ty r) types.1 (subst (λ ty. ResultOf (unary_operation op ty) (form_of v) b ty r) kind.0 (computes v r b kind.1 er)) in
+      let code = unary_operation op (type_of f x) in
+      let result : (b : ℕ) → ResultOf code (form_of v) b (type_of_component f to) r = λ b. record {
+        computes = subst (λ ty. Computes (unary_operation op ty) (form_of v) b (form_of r)) kind.0 (computes v r b kind.1 er);
+        type_is = if_some (λ (y : Value). y.ty ≡ v.ty) (unary_of op v) r (unary_type op v) er ∙ kind.0 ∙ types.1;
+        number = if_some IsValue (unary_of op v) r (unary_of-IsValue op v) er;
+      } in
       works m l p s left _
-      (one_computed m l p w typed frame older q.arrays q.input q.output f cells s to x v r (unary_operation op (type_of f x)) a.holds fits.0 fits.1 ev result
+      (one_computed m l p w typed frame older q.arrays q.input q.output f cells s to x v r code a.holds fits.0 fits.1 ev result
       (stretch m l p w typed frame older q.arrays q.input q.output s (Unary to op x) a e))))
+
+  pub convert_at : (to : ℕ) (x : Operand) → ConversionComputes → RowAt m l p (Convert to x)
+  convert_at to x computes q frame older s a e =
+      let f = a.function in
+      let g = frame.function in
+      let cells = frame.components in
+      let checked = typed.functions g f a.holds.newest.known in
+      let fits = all_at (StepFits f) f.body frame.place (Convert to x) e checked.versioned.steps in
+      let number = checked.steps frame.place (Convert to x) e in
+      let left = length f.body - frame.place in
+      let store = store_of q frame in
+      needing_answers m l p s left (linked_system p) q frame older (value_at cells x) (λ v. needing (slice_get f.types to) (λ ty. sets frame.place store to (convert_of ty v)))
+      (λ v ev. needing_answers m l p s left (linked_system p) q frame older (slice_get f.types to) (λ ty. sets frame.place store to (convert_of ty v))
+      (λ ty et.
+      let kind = operand_typed f cells x v a.holds.newest.typed ev number in
+      let type : ty ≡ type_of_component f to = sym (ap (λ (o : Option ScalarType). unwrap_or o Int) et) in
+      let code = conversion (type_of_component f to) (type_of f x) in
+      let result : (b : ℕ) → ResultOf code (form_of v) b (type_of_component f to) (convert_of ty v) = λ b. record {
+        computes = subst (λ z. Computes (conversion z (type_of f x)) (form_of v) b (form_of (convert_of ty v))) type (subst (λ z. Computes (conversion ty z) (form_of v) b (form_of (convert_of ty v))) kind.0 (computes ty v b kind.1));
+        type_is = type;
+        number = reduced-InRange ty v.num;
+      } in
+      works m l p s left _
+      (one_computed m l p w typed frame older q.arrays q.input q.output f cells s to x v (convert_of ty v) code a.holds fits.0 fits.1 ev result
+      (stretch m l p w typed frame older q.arrays q.input q.output s (Convert to x) a e))))
 
   pub binary_at : (to : ℕ) (op : BinaryOp) (x y : Operand) → BinaryComputes op → RowAt m l p (Binary to op x y)
   binary_at to op x y computes q frame older s a e =
@@ -173,33 +202,15 @@ module _ (m : Segments) (l : Layout) (p : LinkedProgram) (w : IsPlaced m l p) (t
       let kind_x = operand_typed f cells x v a.holds.newest.typed ev types.0 in
       let kind_y = operand_typed f cells y u a.holds.newest.typed eu types.1 in
       let type = type_of_component f to in
-      let fit : binary_fits op (Some type) (Some v.ty) (Some u.ty) ≡ true =
-      ap (λ (ty : ScalarType). binary_fits op (Some type) (Some ty) (Some u.ty)) kind_x.0 ∙ ap (λ (ty : ScalarType). binary_fits op (Some type) (Some (type_of f x)) (Some ty)) kind_y.0 ∙ types.2 in
-      let result = subst (λ ty. ResultOf (operation op ty) (form_of v) (form_of u) type r) kind_x.0 (computes type v u r kind_x.1 kind_y.1 fit er) in
+      let fit : Fit op type v u = fit_of op type v u
+      (ap (λ (ty : ScalarType). binary_fits op (Some type) (Some ty) (Some u.ty)) kind_x.0 ∙ ap (λ (ty : ScalarType). binary_fits op (Some type) (Some (type_of f x)) (Some ty)) kind_y.0 ∙ types.2) in
+      let made = operation_is op v u r er in
+      let code = operation op (type_of f x) in
+      let result : ResultOf code (form_of v) (form_of u) type r = record {
+        computes = subst (λ ty. Computes (operation op ty) (form_of v) (form_of u) (form_of r)) kind_x.0 (computes v u r kind_x.1 kind_y.1 fit.operands made);
+        type_is = if_some (λ (z : Value). z.ty ≡ given_type op v.ty) (binary_of op v u) r (binary_type op v u) made ∙ sym fit.target;
+        number = if_some IsValue (binary_of op v u) r (binary_of-IsValue op v u kind_x.1 kind_y.1 fit.operands) made;
+      } in
       works m l p s left _
-      (two_computed m l p w typed frame older q.arrays q.input q.output f cells s to x y v u r (operation op (type_of f x)) a.holds fits.0 fits.1 fits.2 ev eu result
+      (two_computed m l p w typed frame older q.arrays q.input q.output f cells s to x y v u r code a.holds fits.0 fits.1 fits.2 ev eu result
       (stretch m l p w typed frame older q.arrays q.input q.output s (Binary to op x y) a e)))))
-
-  pub convert_at : (to : ℕ) (x : Operand) → ConversionComputes → RowAt m l p (Convert to x)
-  convert_at to x computes q frame older s a e =
-      let f = a.function in
-      let g = frame.function in
-      let cells = frame.components in
-      let checked = typed.functions g f a.holds.newest.known in
-      let fits = all_at (StepFits f) f.body frame.place (Convert to x) e checked.versioned.steps in
-      let number = checked.steps frame.place (Convert to x) e in
-      let left = length f.body - frame.place in
-      let store = store_of q frame in
-      needing_answers m l p s left (linked_system p) q frame older (value_at cells x) (λ v. needing (slice_get f.types to) (λ ty. sets frame.place store to (convert_of ty v)))
-      (λ v ev. needing_answers m l p s left (linked_system p) q frame older (slice_get f.types to) (λ ty. sets frame.place store to (convert_of ty v))
-      (λ ty et.
-      let kind = operand_typed f cells x v a.holds.newest.typed ev number in
-      let type : type_of_component f to ≡ ty = ap (λ (o : Option ScalarType). unwrap_or o Int) et in
-      let code = conversion (type_of_component f to) (type_of f x) in
-      let made : (b : ℕ) → ResultOf code (form_of v) b (type_of_component f to) (convert_of (type_of_component f to) v) =
-      λ b. subst (λ z. ResultOf (conversion (type_of_component f to) z) (form_of v) b (type_of_component f to) (convert_of (type_of_component f to) v)) kind.0 (computes (type_of_component f to) v b kind.1) in
-      let result : (b : ℕ) → ResultOf code (form_of v) b (type_of_component f to) (convert_of ty v) =
-      λ b. subst (λ z. ResultOf code (form_of v) b (type_of_component f to) (convert_of z v)) type (made b) in
-      works m l p s left _
-      (one_computed m l p w typed frame older q.arrays q.input q.output f cells s to x v (convert_of ty v) code a.holds fits.0 fits.1 ev result
-      (stretch m l p w typed frame older q.arrays q.input q.output s (Convert to x) a e))))

@@ -5,7 +5,7 @@
 //! the step table keeps of it.
 #![tactic(auto)]
 
-ghost use Rattle.machine_laws.specs.Rows.{NopRow, LabelRow, GotoRow, CopiesRow, PutcharRow, GetcharRow, ExitRow, CallRow, ReturnRow};
+ghost use Rattle.machine_laws.specs.Rows.{NopRow, LabelRow, GotoRow, CopiesRow, UnaryRow, ConvertRow, SwitchRow, PutcharRow, GetcharRow, ExitRow, CallRow, ReturnRow};
 
 /// The rows of steps that move within a function: those without words, jumps, and copies of components.
 pub fn plain_rows()
@@ -13,6 +13,17 @@ pub fn plain_rows()
     ensures label { LabelRow }
     ensures goto { GotoRow }
     ensures copies { CopiesRow }
+{}
+
+/// The rows of steps that compute a value of one operand.
+pub fn value_rows()
+    ensures unary { UnaryRow }
+    ensures convert { ConvertRow }
+{}
+
+/// The rows of steps that test a value and jump.
+pub fn test_rows()
+    ensures switch { SwitchRow }
 {}
 
 /// The rows of the builtin functions.

@@ -5,7 +5,7 @@
 //! the step table keeps of it.
 #![tactic(auto)]
 
-ghost use Rattle.machine_laws.specs.Rows.{NopRow, LabelRow, GotoRow, CopiesRow, UnaryRow, ConvertRow, SwitchRow, PutcharRow, GetcharRow, ExitRow, CallRow, ReturnRow};
+ghost use Rattle.machine_laws.specs.Rows.{NopRow, LabelRow, GotoRow, CopiesRow, UnaryRow, ConvertRow, SwitchRow, LoadRow, StoreRow, PutcharRow, GetcharRow, ExitRow, CallRow, ReturnRow};
 
 /// The rows of steps that move within a function: those without words, jumps, and copies of components.
 pub fn plain_rows()
@@ -24,6 +24,12 @@ pub fn value_rows()
 /// The rows of steps that test a value and jump.
 pub fn test_rows()
     ensures switch { SwitchRow }
+{}
+
+/// The rows of steps that load and store elements of arrays.
+pub fn array_rows()
+    ensures load { LoadRow }
+    ensures store { StoreRow }
 {}
 
 /// The rows of the builtin functions.

@@ -1,5 +1,5 @@
 -- Rows of steps that load and store elements of arrays.
-use Rattle.std.proofs.Common.{◌≡◌, ◌≢◌, ℕ, zero, suc, ◌+◌, ◌-◌, ◌*◌, ◌/◌, ◌%◌, ◌^◌, ◌<◌, ◌≤◌, ◌⊎◌, inl, inr, ℤ, pos, negsuc, true, List, [], ◌∷◌, ◌++◌, length, Option, Some, None, refl, sym, ap, ◌∙◌, subst, arith, append-nil}
+use Rattle.std.proofs.Common.{◌≡◌, ◌≢◌, ℕ, zero, suc, ◌+◌, ◌-◌, ◌*◌, ◌%◌, ◌^◌, ◌<◌, ◌≤◌, ◌⊎◌, inl, inr, ℤ, pos, negsuc, true, List, [], ◌∷◌, ◌++◌, length, Option, Some, None, refl, sym, ap, ◌∙◌, subst, arith}
 use Rattle.std.specs.Prelude.{slice_get, slice_set, unsigned_abs}
 use Rattle.std.specs.Option.{option_map, option_map_or}
 use Rattle.std.proofs.lemmas.Bool.{cases_eq, cases_lt}
@@ -12,22 +12,21 @@ use Rattle.gimple_ir.specs.declared.types.ElementType.TheVariants as element
 use Rattle.gimple_ir.specs.declared.types.Operand.{Operand}
 use Rattle.gimple_ir.specs.declared.types.Value.{Value}
 use Rattle.gimple_ir.specs.declared.unit.ArrayUse.{ArrayUse}
-use Rattle.gimple_ir.specs.declared.versioned.Step.{Step}
 use Rattle.gimple_ir.specs.declared.versioned.Step.TheVariants.{Load, Store}
 use Rattle.gimple_ir.specs.declared.versioned.VersionedFunction.{VersionedFunction}
 use Rattle.gimple_meaning.specs.Acts.{Goes, needing, sets, value_at, element_type, element_at, loaded, stored, with_element}
-use Rattle.gimple_meaning.specs.Systems.{Frame, Machine, moved, store_of}
+use Rattle.gimple_meaning.specs.Systems.{Frame, moved, store_of}
 use Rattle.rv64_isa.specs.declared.instr.Instr.TheVariants.{Lui, Add}
 use Rattle.rv64_meaning.specs.Arithmetic.{plus, add, upper}
 use Rattle.rv64_meaning.specs.Machine.{Segments, State, Go, put, load, store, can_load, can_store}
 use Rattle.rv64_meaning.proofs.MemoryLaws.{load_apart}
 use Rattle.rv64_abi.specs.Offsets.{lo, upper_of}
-use Rattle.rv64_frame.specs.Frames.{frame_of, frame_size, component_slot}
+use Rattle.rv64_frame.specs.Frames.{frame_of, frame_size}
 use Rattle.rv64_select.specs.declared.item.Symbol.TheVariants as symbols
 use Rattle.rv64_select.specs.declared.item.Item.{Item}
 use Rattle.rv64_select.specs.declared.item.Item.TheVariants as item
 use Rattle.rv64_select.specs.Operations.{scaling, element_load, element_store}
-use Rattle.rv64_select.specs.Assembly.{plain, operand_in, set_in, type_of, type_of_component, element_of, address_items, step_items}
+use Rattle.rv64_select.specs.Assembly.{plain, operand_in, set_in, type_of_component, element_of, address_items}
 use Rattle.rv64_select.specs.Code.{symbol_name}
 use Rattle.rv64_select.specs.Versioned.{ComponentFits, OperandFits, ArrayFits, StepFits}
 use Rattle.final_link.specs.Arrays.{element_size}
@@ -37,12 +36,12 @@ use Rattle.follow_laws.proofs.WayLaws.{one, then, reach_on, leads_twice}
 use Rattle.follow_laws.proofs.FrameLaws.{data_reached}
 use Rattle.machine_laws.specs.Linked.{LinkedProgram, array_number, linked_system}
 use Rattle.machine_laws.specs.Typed.{ProgramTyped}
-use Rattle.machine_laws.specs.Layouts.{Layout, IsPlaced, array_bytes, places_in, place_address, top}
+use Rattle.machine_laws.specs.Layouts.{Layout, IsPlaced, array_bytes, places_in, place_address}
 use Rattle.machine_laws.specs.Relation.{Holds, AtFrame, ArraysHeld, ElementHeld, element_bits}
 use Rattle.machine_laws.proofs.Lists.{all_at}
 use Rattle.machine_laws.proofs.Memory.{SameFrom, store_kept, stands_kept, waiting_kept, element_within}
 use Rattle.machine_laws.proofs.Frames.{room_of}
-use Rattle.machine_laws.proofs.Operands.{AreBits, FitsComponent, set_same, operand_typed, holds_on, value_got}
+use Rattle.machine_laws.proofs.Operands.{AreBits, FitsComponent, operand_typed, holds_on, value_got}
 use Rattle.machine_laws.proofs.Words.{Stretch, front_stands, behind, grouped, come_on}
 use Rattle.machine_laws.proofs.Answering.{RowAt, works, needing_answers}
 use Rattle.machine_laws.proofs.PlainRows.{stretch, arrived}
@@ -60,8 +59,8 @@ record Named (l : Layout) (p : LinkedProgram) (f : VersionedFunction) (array : �
   base : (places_in l f).symbol (symbols.Array array) ≡ l.array (array_number p f array)
 
 -- where an element lies
-abbrev place_of : Layout → LinkedProgram → VersionedFunction → ℕ → ElementType → ℕ → ℕ
-place_of l p f array kind index = l.array (array_number p f array) + element_size kind * index
+abbrev element_place : Layout → LinkedProgram → VersionedFunction → ℕ → ElementType → ℕ → ℕ
+element_place l p f array kind index = l.array (array_number p f array) + element_size kind * index
 
 -- The element at an index of an array of the function: which array it is, and where it lies. `kind` is the element type by which
 -- the function's code goes.
@@ -71,11 +70,11 @@ record Found (m : Segments) (l : Layout) (p : LinkedProgram) (f : VersionedFunct
   index_is : k ≡ pos index
   inside : index < named.item.length
   ends : element_size kind * index + element_size kind ≤ array_bytes named.item
-  within : place_of l p f array kind index + element_size kind ≤ l.scratch
+  within : element_place l p f array kind index + element_size kind ≤ l.scratch
   near : (places_in l f).symbol (symbols.Array array) + element_size kind * index < 2 ^ 31 - 2 ^ 11
   small : element_size kind * index < 2 ^ 31
-  loads : can_load m (place_of l p f array kind index) (element_size kind) ≡ true
-  stores : can_store m (place_of l p f array kind index) (element_size kind) ≡ true
+  loads : can_load m (element_place l p f array kind index) (element_size kind) ≡ true
+  stores : can_store m (element_place l p f array kind index) (element_size kind) ≡ true
 
 there : {T : Type 0} (xs : List T) (i : ℕ) → i < length xs → (x : T) × (slice_get xs i ≡ Some x)
 there [] i h = absurd (omega (arith, h))
@@ -155,16 +154,19 @@ module _ (m : Segments) (l : Layout) (p : LinkedProgram) (w : IsPlaced m l p) (g
     where
       below : (start offset size bytes end : ℕ) → offset + size ≤ bytes → start + bytes ≤ end → start + offset + size ≤ end
       below start offset size bytes end h k = omega (arith, h, k)
+
       over : (first start offset : ℕ) → first ≤ start → first ≤ start + offset
       over first start offset h = omega (arith, h)
+
       lower : (place size end : ℕ) → place + size ≤ end → end < 2 ^ 31 - 2 ^ 11 → place < 2 ^ 31 - 2 ^ 11
       lower place size end h k = omega (arith, h, k)
+
       least : (start offset : ℕ) → start + offset < 2 ^ 31 - 2 ^ 11 → offset < 2 ^ 31
       least start offset h = omega (arith, h)
 
   -- its number, in memory that has the arrays
   record Number (mem : ℕ → ℕ) (array : ℕ) (kind : ElementType) (index : ℕ) (z : ℤ) : Type 0 where
-    bits : load (element_size kind) mem (place_of l p f array kind index) ≡ element_bits kind z
+    bits : load (element_size kind) mem (element_place l p f array kind index) ≡ element_bits kind z
     number : IsElement kind z
 
   number_found : (arrays : List (List ℤ)) (mem : ℕ → ℕ) (array : ℕ) (kind : ElementType) (k z : ℤ) → (a : Found m l p f array kind k) → ArraysHeld l p mem arrays
@@ -236,7 +238,7 @@ module _ (m : Segments) (l : Layout) (p : LinkedProgram) (w : IsPlaced m l p) (t
   element_set cells s to array right kind k z a inside type e h =
       let places = places_in l f in
       let base = places.symbol (symbols.Array array) in
-      let place = place_of l p f array kind a.index in
+      let place = element_place l p f array kind a.index in
       let number = number_found m l p w frame.function f arrays s.mem array kind k z a h.holds.arrays_held e in
       let at = h.address ∙ ap (λ n. n + element_size kind * a.index) a.named.base in
       let value = loaded kind z in
@@ -273,7 +275,7 @@ module _ (m : Segments) (l : Layout) (p : LinkedProgram) (w : IsPlaced m l p) (t
 module _ (m : Segments) (l : Layout) (p : LinkedProgram) (w : IsPlaced m l p) (f : VersionedFunction) (arrays : List (List ℤ)) (mem : ℕ → ℕ) (array : ℕ) (kind : ElementType) (k y : ℤ) (bits : ℕ) (a : Found m l p f array kind k) (held : ArraysHeld l p mem arrays) where
   -- memory with the low bytes of a number at the element
   abbrev new_memory : ℕ → ℕ
-  new_memory = store (element_size kind) mem (place_of l p f array kind a.index) bits
+  new_memory = store (element_size kind) mem (element_place l p f array kind a.index) bits
 
   abbrev new_arrays : List (List ℤ)
   new_arrays = with_element arrays (array_number p f array) a.index y
@@ -288,7 +290,7 @@ module _ (m : Segments) (l : Layout) (p : LinkedProgram) (w : IsPlaced m l p) (f
       let n = array_number p f array in
       let same = same_item item known in
       let type : kind ≡ item.element = sym a.named.kind_is ∙ ap (λ (x : Array). x.element) same in
-      let is : load (element_size kind) new_memory (l.array n + element_size kind * a.index) ≡ element_bits kind y = load_stored (element_size kind) mem (place_of l p f array kind a.index) bits ∙ low in
+      let is : load (element_size kind) new_memory (l.array n + element_size kind * a.index) ≡ element_bits kind y = load_stored (element_size kind) mem (element_place l p f array kind a.index) bits ∙ low in
       subst (ElementHeld l new_memory n a.index item) (element_there arrays n a.index y z at) (record {
         within = subst (λ (x : Array). a.index < x.length) same a.inside;
         bits = subst (λ (t : ElementType). load (element_size t) new_memory (l.array n + element_size t * a.index) ≡ element_bits t y) type is;
@@ -304,7 +306,7 @@ module _ (m : Segments) (l : Layout) (p : LinkedProgram) (w : IsPlaced m l p) (f
       let size = element_size item.element in
       let type : kind ≡ item.element = sym a.named.kind_is ∙ ap (λ (x : Array). x.element) (same_item item known) in
       let kept = subst (λ (t : ElementType). load (element_size t) (store (element_size t) mem (l.array n + element_size t * a.index) bits) (l.array n + element_size t * i) ≡ load (element_size t) mem (l.array n + element_size t * i)) (sym type)
-          (load_apart size size mem (l.array n + size * a.index) bits (l.array n + size * i) (apart item.element (l.array n) (cases_lt a.index i))) in
+      (load_apart size size mem (l.array n + size * a.index) bits (l.array n + size * i) (apart item.element (l.array n) (cases_lt a.index i))) in
       let same = subst (λ (t : ElementType). load (element_size t) new_memory (l.array n + element_size t * i) ≡ load (element_size t) mem (l.array n + element_size t * i)) type kept in
       record { within = old.within; bits = same ∙ old.bits; number = old.number }
     where
@@ -322,8 +324,8 @@ module _ (m : Segments) (l : Layout) (p : LinkedProgram) (w : IsPlaced m l p) (f
       let size = element_size item.element in
       let ends = element_within item.element i item.length old.within in
       let clear = apart (l.array number) (l.array n) (element_size kind * a.index) (element_size kind) (size * i) size (array_bytes a.named.item) (array_bytes item) a.ends ends
-          (w.apart number n a.named.item item other a.named.known known a.named.kept kept) in
-      record { within = old.within; bits = load_apart size (element_size kind) mem (place_of l p f array kind a.index) bits (l.array n + size * i) clear ∙ old.bits; number = old.number }
+      (w.apart number n a.named.item item other a.named.known known a.named.kept kept) in
+      record { within = old.within; bits = load_apart size (element_size kind) mem (element_place l p f array kind a.index) bits (l.array n + size * i) clear ∙ old.bits; number = old.number }
     where
       apart : (here there offset size from width bytes many : ℕ) → offset + size ≤ bytes → from + width ≤ many → ((here + bytes ≤ there) ⊎ (there + many ≤ here))
           → ((there + from + width ≤ here + offset) ⊎ (here + offset + size ≤ there + from))
@@ -352,7 +354,7 @@ module _ (m : Segments) (l : Layout) (p : LinkedProgram) (w : IsPlaced m l p) (t
   element_put cells s array v kind k a type h =
       let g = frame.function in
       let base = (places_in l f).symbol (symbols.Array array) in
-      let place = place_of l p f array kind a.index in
+      let place = element_place l p f array kind a.index in
       let size = element_size kind in
       let y = stored kind v.num in
       let at = h.address ∙ ap (λ n. n + size * a.index) a.named.base in

@@ -1,17 +1,15 @@
 -- Elements of arrays: their numbers in registers and in memory, and what is read after an element was stored.
-use Rattle.std.proofs.Common.{◌≡◌, ◌≢◌, ℕ, zero, suc, ◌+◌, ◌-◌, ◌*◌, ◌/◌, ◌%◌, ◌^◌, ◌<◌, ◌≤◌, ◌⊎◌, inl, inr, ℤ, pos, negsuc, ◌≤ℤ◌, Bool, true, false, cond, List, [], ◌∷◌, length, Option, Some, None, refl, sym, ap, ◌∙◌, subst, arith}
+use Rattle.std.proofs.Common.{◌≡◌, ◌≢◌, ℕ, zero, suc, ◌+◌, ◌-◌, ◌*◌, ◌/◌, ◌%◌, ◌^◌, ◌<◌, ◌≤◌, ℤ, pos, negsuc, ◌≤ℤ◌, true, cond, List, [], ◌∷◌, Some, refl, sym, ap, ◌∙◌, subst, arith}
 use Rattle.std.specs.Prelude.{nat_lt, nat_le, ◌&&◌, slice_get, slice_set}
-use Rattle.std.specs.Option.{option_map, option_and_then}
 use Rattle.std.proofs.Math.Nat.{mod-lt, mod-one}
 use Rattle.std.proofs.Math.Pow.{pow_pos, mod-mod-pow}
 use Rattle.std.proofs.lemmas.Nat.{mod-pow-add, shr_high}
 use Rattle.std.proofs.lemmas.Int.{ints}
 use Rattle.std.proofs.lemmas.Bool.{cond-true}
 use Rattle.std.proofs.lemmas.Bool.Decides.{nat_tests}
-use Rattle.gimple_ir.specs.Values.{InRange, IsValue, modulus, reduced, value_of}
+use Rattle.gimple_ir.specs.Values.{IsValue, modulus, reduced, value_of}
 use Rattle.gimple_ir.specs.Programs.{IsElement}
 use Rattle.gimple_ir.specs.Statements.{read_type}
-use Rattle.gimple_ir.specs.declared.types.Array.{Array}
 use Rattle.gimple_ir.specs.declared.types.ElementType.{ElementType}
 use Rattle.gimple_ir.specs.declared.types.ElementType.TheVariants as element
 use Rattle.gimple_ir.specs.declared.types.ScalarType.{ScalarType}
@@ -19,13 +17,11 @@ use Rattle.gimple_ir.specs.declared.types.ScalarType.TheVariants.{Int, UnsignedI
 use Rattle.gimple_ir.specs.declared.types.Value.{Value}
 use Rattle.gimple_ir.proofs.WellFormed.{reduced-InRange}
 use Rattle.gimple_meaning.specs.Acts.{low_byte, element_at, loaded, stored, with_element}
-use Rattle.rv64_isa.specs.Format.{residue}
 use Rattle.rv64_isa.specs.declared.instr.Instr.TheVariants.{Slli}
-use Rattle.rv64_meaning.specs.Arithmetic.{bits64, plus, add, sll, upper}
+use Rattle.rv64_meaning.specs.Arithmetic.{plus, add, upper}
 use Rattle.rv64_meaning.specs.Machine.{Segments, State, Go, Trap, effect, put, load, store, can_load, can_store, load_to, store_from}
 use Rattle.rv64_meaning.proofs.MemoryLaws.{load_same}
 use Rattle.rv64_abi.specs.Offsets.{lo, upper_of}
-use Rattle.rv64_select.specs.Templates.{machine_form}
 use Rattle.rv64_select.specs.Operations.{scaling, element_load, element_store}
 use Rattle.final_link.specs.Arrays.{element_size}
 use Rattle.follow_laws.specs.Frames.{form_of}
@@ -62,8 +58,10 @@ address_at base offset h = offset_parts base offset (below base offset h) (above
   where
     below : (a b : ℕ) → a + b < 2 ^ 31 - 2 ^ 11 → a < 2 ^ 31 - 2 ^ 11
     below a b h = omega arith
+
     above : (a b : ℕ) → a + b < 2 ^ 31 - 2 ^ 11 → b + a < 2 ^ 64
     above a b h = omega arith
+
     turned : (a b : ℕ) → b + a ≡ a + b
     turned a b = omega arith
 
@@ -144,6 +142,7 @@ bits_settled ty z = let h = low_lt ty z in settled_form ty (low_of ty z) z (smal
     small UnsignedInt n h = omega arith
     small LongInt n h = omega arith
     small LongUnsignedInt n h = omega arith
+
     same : (ty : ScalarType) (n : ℕ) → n < modulus ty → n % modulus ty ≡ n
     same Int n h = omega arith
     same UnsignedInt n h = omega arith
@@ -181,6 +180,7 @@ stored_bits (element.Scalar ty) v same = at_size ty (form_of v) ∙ low ∙ sym 
     at_size UnsignedInt n = refl
     at_size LongInt n = refl
     at_size LongUnsignedInt n = refl
+
     low : form_of v % modulus ty ≡ low_of ty v.num
     low = subst (λ (k : ScalarType). form_of v % modulus k ≡ low_of k v.num) same (form_low v)
 

@@ -11,6 +11,7 @@ use Rattle.machine_laws.proofs.Answering.{row}
 use Rattle.machine_laws.proofs.PlainRows.{nop_at, label_at, goto_at, copies_at}
 use Rattle.machine_laws.proofs.ValueRows.{UnaryComputes, BinaryComputes, unary_at, convert_at, binary_at}
 use Rattle.machine_laws.proofs.TestRows.{ComparisonBranches, cond_at, switch_at}
+use Rattle.machine_laws.proofs.ArrayRows.{load_at, store_at}
 use Rattle.machine_laws.proofs.BuiltinRows.{putchar_at, getchar_at, exit_at}
 use Rattle.machine_laws.proofs.ReturnRows.{return_at}
 use Rattle.machine_laws.proofs.CallRows.{call_at}
@@ -64,23 +65,29 @@ call_row to n args m l p w typed q s = row m l p (Call to n args) (call_at m l p
 pub return_row : ReturnRow
 return_row x m l p w typed q s = row m l p (Return x) (return_at m l p w typed x) q s
 
-all_rows : BinaryRow → CondRow → LoadRow → StoreRow → AllRows
-all_rows b c k t Nop = nop_row
-all_rows b c k t (Label x) = label_row x
-all_rows b c k t (Goto x) = goto_row x
-all_rows b c k t (Cond op x y met missed) = c op x y met missed
-all_rows b c k t (Switch on cases otherwise) = switch_row on cases otherwise
-all_rows b c k t (Return x) = return_row x
-all_rows b c k t (Copies x) = copies_row x
-all_rows b c k t (Unary to op x) = unary_row to op x
-all_rows b c k t (Convert to x) = convert_row to x
-all_rows b c k t (Binary to op x y) = b to op x y
-all_rows b c k t (Load to array x) = k to array x
-all_rows b c k t (Store array x y) = t array x y
-all_rows b c k t (Call to n args) = call_row to n args
-all_rows b c k t (Putchar x) = putchar_row x
-all_rows b c k t (Getchar x) = getchar_row x
-all_rows b c k t (Exit x) = exit_row x
+pub load_row : LoadRow
+load_row to array index m l p w typed q s = row m l p (Load to array index) (load_at m l p w typed to array index) q s
 
-pub rows_joined : BinaryRow → CondRow → LoadRow → StoreRow → MachineFollows
-rows_joined b c k t m l p w typed input s a = start_follows m l p w typed (all_rows b c k t) input s a
+pub store_row : StoreRow
+store_row array index from m l p w typed q s = row m l p (Store array index from) (store_at m l p w typed array index from) q s
+
+all_rows : BinaryRow → CondRow → AllRows
+all_rows b c Nop = nop_row
+all_rows b c (Label x) = label_row x
+all_rows b c (Goto x) = goto_row x
+all_rows b c (Cond op x y met missed) = c op x y met missed
+all_rows b c (Switch on cases otherwise) = switch_row on cases otherwise
+all_rows b c (Return x) = return_row x
+all_rows b c (Copies x) = copies_row x
+all_rows b c (Unary to op x) = unary_row to op x
+all_rows b c (Convert to x) = convert_row to x
+all_rows b c (Binary to op x y) = b to op x y
+all_rows b c (Load to array x) = load_row to array x
+all_rows b c (Store array x y) = store_row array x y
+all_rows b c (Call to n args) = call_row to n args
+all_rows b c (Putchar x) = putchar_row x
+all_rows b c (Getchar x) = getchar_row x
+all_rows b c (Exit x) = exit_row x
+
+pub rows_joined : BinaryRow → CondRow → MachineFollows
+rows_joined b c m l p w typed input s a = start_follows m l p w typed (all_rows b c) input s a

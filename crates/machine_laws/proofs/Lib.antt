@@ -15,5 +15,7 @@ pub mod ReturnRows
 pub mod CallRows
 pub mod Forms
 pub mod Sums
+pub mod Elements
+pub mod ArrayRows
 pub mod Following
 pub mod AllRows

@@ -27,6 +27,12 @@ pub fn test_rows()
     ensures switch { SwitchRow }
 {}
 
+/// The rows of steps that load and store elements of arrays.
+pub fn array_rows()
+    ensures load { LoadRow }
+    ensures store { StoreRow }
+{}
+
 /// The rows of the builtin functions.
 pub fn builtin_rows()
     ensures putchar { PutcharRow }
@@ -42,5 +48,5 @@ pub fn call_rows()
 
 /// The rows joined: from the start of its run the machine follows the program, once the rows of the other steps stand too.
 pub fn joined_rows()
-    ensures { BinaryRow → CondRow → LoadRow → StoreRow → MachineFollows }
+    ensures { BinaryRow → CondRow → MachineFollows }
 {}

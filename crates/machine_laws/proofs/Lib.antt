@@ -17,3 +17,10 @@ pub mod Forms
 pub mod Sums
 pub mod Following
 pub mod AllRows
+pub mod Numbers
+pub mod NumbersTests
+pub mod NumbersShifts
+pub mod NumbersBits
+pub mod NumbersQuotients
+pub mod NumbersComputed
+pub mod NumbersBranches

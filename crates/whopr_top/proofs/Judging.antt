@@ -1,5 +1,5 @@
 -- What a command came to: one lemma where it is refused, where its files are written, and where a write is cut short.
-use Rattle.std.proofs.Common.{◌≡◌, ◌≢◌, ℕ, List, [], ◌∷◌, ◌⊎◌, Option, Some, None, Result, Ok, Err, refl, sym, ap, inl, inr, arith, ◌≤◌, length, subst}
+use Rattle.std.proofs.Common.{◌≡◌, ◌≢◌, ℕ, List, [], ◌∷◌, ◌⊎◌, Option, Some, None, Result, Ok, Err, refl, sym, ◌∙◌, ap, inl, inr, arith, ◌≤◌, length, subst}
 use Rattle.std.specs.Prelude.{IfSome, ◌++◌, codes, decimal}
 use Rattle.outer_files.specs.Outside.{Contents, WhereTold, Writes, WritesPrefix, Rose, IsLonger}
 use Rattle.gimple_ir.specs.declared.types.Module.{Module}
@@ -180,6 +180,14 @@ source_given : (output : List ℕ) (r : Result Module TextFault) (w : List File)
     → (source : Module) × (image : List ℕ) × (r ≡ Ok source) × (link_of source ≡ Ok image) × (w ≡ (output, image) ∷ [])
 source_given output (Err fault) w x h = absurd (alike_to (Gives w x) (cc_by output (Err fault)) (cc_by output (Err fault)) h refl)
 source_given output (Ok source) w x h = let given = image_given output (link_of source) w x h in (source, given.0, refl, given.1, given.2)
+
+abbrev ok_or : Module → Result Module TextFault → Module
+ok_or other (Ok source) = source
+ok_or other (Err fault) = other
+
+-- a text is read to one module
+pub checked_source : (text : List ℕ) (source : Module) → IsChecked source → read_of text ≡ Ok source → (other : Module) → read_of text ≡ Ok other → IsChecked other
+checked_source text source checked read other same = subst IsChecked (ap (ok_or source) (sym read ∙ same)) checked
 
 pub faithful : LinkedLoads → LinkedFollows → (limit : ℕ) (input output text : List ℕ) (w : List File) (x : List ℕ) → Gives w x ≡ cc_by output (read_of text)
     → (checked : (source : Module) → read_of text ≡ Ok source → IsChecked source) (old new : Contents) → AreHeld limit old (input ∷ []) (text ∷ []) → WritesAll w old new → IsFaithful input output old new

@@ -1,6 +1,6 @@
 use Rattle.std.proofs.Common.{◌≡◌, Err, ap, refl, arith, [], ◌∷◌}
 use Rattle.std.proofs.lemmas.Grind.{common_steps}
-use Rattle.whopr_top.proofs.Judging.{one_read, one_written, one_cut_short, refused, done, cut_short, faithful, cc_faults, cc_refuses, cc_gives}
+use Rattle.whopr_top.proofs.Judging.{one_read, one_written, one_cut_short, refused, done, cut_short, faithful, checked_source, cc_faults, cc_refuses, cc_gives}
 use Rattle.whopr_top.specs.Lines.{line, limit_line}
 use Rattle.plain_link.specs.declared.fault.LinkFault.TheVariants.{Unbuilt, Limit}
 use Rattle.whopr_top.specs.Judgements.{Refuses}
@@ -39,8 +39,9 @@ returns-in-Ok-write_all-clause-judged g c =
     (one_read _ _ _ _ c.in-Ok.ensures.bytes (grind (arith, common_steps, c.in-Ok.ensures.within)))
     (cc_gives c.args.out.now c.in-Ok.text.items c.in-Ok-image_of.image.items _ _ (rw c.deref.ensures.value at c.in-Ok-read_module.ensures.exact) c.in-Ok-image_of.ensures.linked c.new.ensures.items)
     (one_written _ _ c.args.out.now _ (rw c.deref-3.ensures.value at c.in-Ok-write_all.ensures.written))
-    (faithful c.first_form_follows.ensures.follows _ c.args.input.now c.args.out.now c.in-Ok.text.items _ _
-    (cc_gives c.args.out.now c.in-Ok.text.items c.in-Ok-image_of.image.items _ _ (rw c.deref.ensures.value at c.in-Ok-read_module.ensures.exact) c.in-Ok-image_of.ensures.linked c.new.ensures.items))
+    (faithful c.linked_image_follows.ensures.loads c.linked_image_follows.ensures.follows _ c.args.input.now c.args.out.now c.in-Ok.text.items _ _
+    (cc_gives c.args.out.now c.in-Ok.text.items c.in-Ok-image_of.image.items _ _ (rw c.deref.ensures.value at c.in-Ok-read_module.ensures.exact) c.in-Ok-image_of.ensures.linked c.new.ensures.items)
+    (checked_source c.in-Ok.text.items _ c.image_of.ensures.checked (rw c.deref.ensures.value at c.in-Ok-read_module.ensures.exact)))
 
 pub returns-in-Err-Failed-write_all-clause-judged : goal.returns-in-Err-Failed-write_all-clause-judged
 returns-in-Err-Failed-write_all-clause-judged g c =

@@ -1,13 +1,13 @@
 -- What becomes of a module that is a whole program: a plan with one version of each function, which takes all its arguments and gives its
 -- result; the arrays; and the versions themselves.
-use Rattle.std.specs.Prelude.{ℕ, List, [], ◌∷◌, length, map, Bool, true, not, slice_get, replicate}
+use Rattle.std.specs.Prelude.{ℕ, List, [], length, map, Bool, true, not, slice_get, replicate}
 use Rattle.std.specs.List.{range_with_len}
 use Rattle.std.specs.Option.{option_map_or}
 use Rattle.gimple_ir.specs.declared.types.Array.{Array}
 use Rattle.gimple_ir.specs.declared.types.ElementType.{ElementType}
 use Rattle.gimple_ir.specs.declared.types.ElementType.TheVariants as element
 use Rattle.gimple_ir.specs.declared.types.Linkage.{Linkage}
-use Rattle.gimple_ir.specs.declared.types.Linkage.TheVariants.{Extern, Strong, Weak, Static}
+use Rattle.gimple_ir.specs.declared.types.Linkage.TheVariants.{Static}
 use Rattle.gimple_ir.specs.declared.types.Function.{Function}
 use Rattle.gimple_ir.specs.declared.types.Module.{Module}
 use Rattle.gimple_ir.specs.declared.lattice.Lattice.TheVariants.{Bottom}

@@ -1,8 +1,9 @@
 //! The plan and the arrays of a module that is a whole program.
-ghost use Rattle.std.specs.Prelude.{◌≡◌, ◌<◌, length, map, slice_get, All, IfOk, IfSome};
+ghost use Rattle.std.specs.Prelude.{◌≡◌, ◌<◌, [], ◌∷◌, ◌++◌, length, map, slice_get, All, IfOk, OnOk, IfSome, if◌then◌else◌};
 ghost use Rattle.gimple_ir.specs.Programs.{IsStated, IsChecked};
 ghost use Rattle.gimple_ir.specs.declared.lattice.Binding.TheVariants.{Arg};
 ghost use Rattle.func_summary.specs.Summaries.{summary_of};
+ghost use Rattle.plain_link.specs.Numbers.{is_storage};
 ghost use Rattle.plain_link.specs.Lowering.{all_of, call_plan, version_of, merged_array, merged_of};
 ghost use Rattle.plain_link.specs.Known.{AreSymbols, IsKnownEdge};
 
@@ -73,10 +74,11 @@ pub fn version(
 {
     let function = source.functions.get(place as usize);
     let components = summary.params.len() as u32;
+    let vector = vec![in alloc; Lattice::Bottom; components as usize]?;
     Ok(Version {
         function: number,
         number: 0,
-        vector: List::from_vec(vec![in alloc; Lattice::Bottom; components as usize]?),
+        vector: List::from_vec(vector),
         bindings: bindings(alloc, components)?,
         result: true,
         symbol: symbol(alloc, &function.name, ".", number)?,
@@ -97,6 +99,16 @@ fn merged_array(place: u32, array: &Array) -> Result<MergedArray, NoMemory>
     })
 }
 
+// Adds an array that has storage.
+fn push_stored(arrays: &mut Vec<MergedArray>, place: u32, array: &Array) -> Result<(), NoMemory>
+    ensures { OnOk result (arrays.new.items ≡ arrays.old.items ++ (if is_storage array.now then merged_array place array.now ∷ [] else [])) }
+{
+    if is_storage(array) {
+        arrays.push(merged_array(place, array)?)?;
+    }
+    Ok(())
+}
+
 /// The arrays of a module, and the number of its `main`.
 pub fn merged(alloc: Global, source: &Module, main: u32) -> Result<Merged, NoMemory>
     requires { IsStated source.now }
@@ -104,9 +116,7 @@ pub fn merged(alloc: Global, source: &Module, main: u32) -> Result<Merged, NoMem
 {
     let mut arrays = Vec::new(alloc);
     for (place, array) in source.arrays.as_slice().iter().enumerate() {
-        if is_storage(array) {
-            arrays.push(merged_array(place as u32, array)?)?;
-        }
+        push_stored(&mut arrays, place as u32, array)?;
     }
     Ok(Merged {
         functions: List::new(alloc),

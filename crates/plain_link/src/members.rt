@@ -86,13 +86,15 @@ pub fn member(
     ensures versioned { IfOk result (λ member. IsVersioned (versioned_of member)) }
 {
     let function = source.functions.get(place as usize);
+    let components = summary.params.len() as u32;
+    let labels = function.labels.len() as u32;
     Ok(Member {
         symbol: symbol(alloc, &function.name, ".", number)?,
         parameters: function.parameters,
         variables: variables(alloc, function.variables.as_slice())?,
-        bindings: bindings(alloc, summary.params.len() as u32)?,
+        bindings: bindings(alloc, components)?,
         result: true,
-        labels: function.labels.len() as u32,
+        labels,
         arrays: arrays(alloc, source, symbols, summary.arrays.as_slice())?,
         calls: calls(alloc, source, symbols, summary.edges.as_slice())?,
         body: copies::body(alloc, function.body.as_slice())?,

@@ -1,7 +1,6 @@
 //! Whether a module is a whole program by itself, and which of its functions is `main`.
-ghost use Rattle.std.specs.Prelude.{◌≡◌, ◌<◌, ◌^◌, length, filter, position, slice_get};
-ghost use Rattle.gimple_ir.specs.Programs.{IsStated};
-ghost use Rattle.plain_link.specs.Numbers.{is_body};
+ghost use Rattle.std.specs.Prelude.{◌≡◌, ◌<◌, ◌^◌, length};
+ghost use Rattle.std.specs.List.{list_any};
 ghost use Rattle.plain_link.specs.Linking.{is_declared_function, is_declared_array, names_declaration, is_open, is_global, gives_int, is_main, main_of};
 
 use crate::symbols::{is_body, is_storage};
@@ -36,15 +35,21 @@ fn names_declaration(source: &Module, statement: &Statement) -> bool
     }
 }
 
+fn some_names_declaration(source: &Module, body: &[Statement]) -> bool
+    ensures { result ≡ list_any (names_declaration source.now) body.now }
+{
+    body.iter()
+        .any(|statement| names_declaration(source, statement))
+}
+
 /// Whether some statement names a declaration.
 pub fn is_open(source: &Module) -> bool
     ensures { result ≡ is_open source.now }
 {
-    source.functions.as_slice().iter().any(|function| {
-        let body = function.body.as_slice();
-        body.iter()
-            .any(|statement| names_declaration(source, statement))
-    })
+    source.functions.as_slice().iter().any(|function| some_names_declaration(
+        source,
+        function.body.as_slice(),
+    ))
 }
 
 fn is_global(linkage: Linkage) -> bool
@@ -75,13 +80,12 @@ pub fn main_of(source: &Module) -> Option<u32>
 {
     let mut number = 0;
     for function in source.functions.as_slice() {
-        if !is_body(function) {
-            continue;
+        if is_body(function) {
+            if is_main(function) {
+                return Some(number);
+            }
+            number += 1;
         }
-        if is_main(function) {
-            return Some(number);
-        }
-        number += 1;
     }
     None
 }

@@ -47,7 +47,7 @@ needed (Some u) k l h = h u
 
 -- ---- one statement
 
-types_same : (variables : List Variable) → flat_map (λ (types : List ScalarType). types) (types_of variables) ≡ component_types variables
+pub types_same : (variables : List Variable) → flat_map (λ (types : List ScalarType). types) (types_of variables) ≡ component_types variables
 types_same variables = flat_map-map (λ (types : List ScalarType). types) (λ (v : Variable). v.types) variables
 
 goes_to : (m : Module) (main number : ℕ) (f : Function) (s : Store) (l : ℕ) → Goes (steps.place_of (code_at m main number f).body l) s [] ≡ Goes (source.place_of (function_in m f).body l) s []

@@ -1,9 +1,8 @@
 -- Each step of a version has the types that its place asks for.
-use Rattle.std.proofs.Common.{◌≡◌, ◌≢◌, ◌+◌, ◌<◌, ◌≤◌, ℕ, zero, suc, List, [], ◌∷◌, length, map, take, Bool, true, false, true≢false, Some, None, refl, sym, ap, ap₂, ◌∙◌, subst, arith}
-use Rattle.std.specs.Prelude.{All, Option, ◌&&◌, IsSomeAnd, slice_get, filter, option_map, unwrap_or, nat_eq}
-use Rattle.std.specs.List.{flat_map, list_all, zip, range_with_len}
-use Rattle.std.specs.Option.{option_map_or, option_and_then}
-use Rattle.std.proofs.lemmas.Bool.Decides.{nat_tests}
+use Rattle.std.proofs.Common.{◌≡◌, ◌+◌, ◌<◌, ◌≤◌, ℕ, zero, suc, List, [], ◌∷◌, length, map, take, true, Some, None, sym, ap, ◌∙◌, subst, arith}
+use Rattle.std.specs.Prelude.{All, Option, IsSomeAnd, slice_get, filter, option_map}
+use Rattle.std.specs.List.{flat_map, list_all, zip}
+use Rattle.std.specs.Option.{option_map_or}
 use Rattle.std.proofs.lemmas.Option.{none-some, same_Some, slice_get-map, slice_get_within}
 use Rattle.std.proofs.lemmas.List.Concat.{length-flat_map}
 use Rattle.std.proofs.lemmas.List.Elements.{All-nil, All-cons, All-append, All-head, All-tail}
@@ -24,38 +23,31 @@ use Rattle.gimple_ir.specs.declared.types.Variable.{Variable}
 use Rattle.gimple_ir.specs.declared.types.Function.{Function}
 use Rattle.gimple_ir.specs.declared.types.Module.{Module}
 use Rattle.gimple_ir.specs.declared.types.Statement.{Statement}
-use Rattle.gimple_ir.specs.declared.types.Statement.TheVariants.{Nop, Label, Goto, Cond, Switch, ReturnVoid, Return, Copy, Unary, Convert, Binary, Load, Store, CopyStruct, Call, Putchar, Getchar, Exit}
 use Rattle.gimple_ir.specs.declared.lattice.Binding.{Binding}
 use Rattle.gimple_ir.specs.declared.lattice.Binding.TheVariants as binding
 use Rattle.gimple_ir.specs.declared.unit.ArrayUse.{ArrayUse}
-use Rattle.gimple_ir.specs.declared.versioned.Pair.{Pair}
 use Rattle.gimple_ir.specs.declared.versioned.VersionedFunction.{VersionedFunction}
 use Rattle.gimple_ir.specs.Values.{IsValue}
-use Rattle.gimple_ir.specs.CodeBound.{components_in, components_of, parameter_components}
+use Rattle.gimple_ir.specs.CodeBound.{components_of, parameter_components}
 use Rattle.gimple_ir.specs.Statements.{ByNumber, component_types, is_comparison, binary_fits, read_type, alike, is_void, structs_fit, argument_fits, arguments_fit, knows, knows_component, knows_operand, knows_target, knows_function, knows_argument, knows_array, counts_arguments, types_fit, type_of_element, type_of_call, type_of_result, result_fits}
 use Rattle.gimple_ir.specs.Statements as source
 use Rattle.gimple_ir.specs.Checks.{scope_in}
-use Rattle.gimple_ir.specs.Programs.{IsOperand, IsArgument, HasValues}
-use Rattle.gimple_meaning.specs.Source.{first_component, struct_pairs, operands_of, components_from}
+use Rattle.gimple_ir.specs.Programs.{IsOperand, IsArgument}
+use Rattle.gimple_meaning.specs.Source.{first_component, operands_of, components_from}
 use Rattle.func_summary.specs.Summaries.{arrays_in, arrays_of}
-use Rattle.func_summary.proofs.Checked.{both-true, below, all_at}
-use Rattle.ipa_transform.specs.Versioned.{use_of, step_of, picked, kept_of}
-use Rattle.ipa_transform.specs.Versioned as lowered
+use Rattle.func_summary.proofs.Checked.{both-true}
+use Rattle.ipa_transform.specs.Versioned.{use_of}
 use Rattle.rv64_select.specs.Assembly.{type_of, type_of_component, element_of}
-use Rattle.plain_link.specs.Numbers.{is_body, function_number}
+use Rattle.plain_link.specs.Numbers.{is_body}
 use Rattle.plain_link.specs.Lowering.{array_use, member_of}
 use Rattle.plain_link.specs.Lowering as linking
-use Rattle.plain_link.proofs.Facts.{three_true, all_true, Facts, facts}
 use Rattle.plain_link.proofs.Uses.{use_found}
-use Rattle.machine_laws.specs.Linked.{LinkedProgram, callee_number}
-use Rattle.machine_laws.specs.Typed.{TargetTyped, ArgumentsTyped, StepTyped}
-use Rattle.lowering_laws.specs.Whole.{IsWhole}
-use Rattle.lowering_laws.specs.Linked.{given_type, result_type_of, linked_of}
+use Rattle.machine_laws.specs.Typed.{TargetTyped, ArgumentsTyped}
+use Rattle.lowering_laws.specs.Linked.{given_type, result_type_of}
 use Rattle.lowering_laws.proofs.Numbered.{ranged}
-use Rattle.lowering_laws.proofs.Named.{version_at, IsFound, function_found, names_none}
-use Rattle.lowering_laws.proofs.Bodies.{types_of, calls_before, pairs_same}
-use Rattle.lowering_laws.proofs.Uses.{Known, code_at, use_here, known}
-use Rattle.lowering_laws.proofs.Typing.{there, component_type, operand_type, alike_is, operands_alike, known_type, Agree, copies_typed, arguments_typed, front_types}
+use Rattle.lowering_laws.proofs.Named.{version_at}
+use Rattle.lowering_laws.proofs.Uses.{use_here}
+use Rattle.lowering_laws.proofs.Typing.{there, component_type, alike_is, operands_alike, known_type, Agree, arguments_typed, front_types}
 
 -- ---- operands
 
@@ -149,10 +141,10 @@ passed_typed m number other f c args agree others count few h i k here =
     let size : length P ≡ parameter_components c = length-flat_map types (take c.parameters c.variables) in
     let inside : i < length P = omega (arith, r.0, size) in
     let all : map (type_of v) ops ≡ P =
-            arguments_typed m number f args c.variables agree others (omega (arith, count, few)) h ∙ ap (λ (n : ℕ). flat_map types (take n c.variables)) count in
+    arguments_typed m number f args c.variables agree others (omega (arith, count, few)) h ∙ ap (λ (n : ℕ). flat_map types (take n c.variables)) count in
     let one = there P i inside in
     let parameter : type_of_component (version_at m other c) i ≡ one.0 = component_type m other c i one.0 (front_types c.variables c.parameters i inside ∙ one.1) in
     let typed : option_map (type_of v) (slice_get ops i) ≡ Some (type_of_component (version_at m other c) i) =
-            sym (slice_get-map (type_of v) ops i) ∙ ap (λ (xs : List ScalarType). slice_get xs i) all ∙ one.1 ∙ ap (λ (t : ScalarType). Some t) (sym parameter) in
+    sym (slice_get-map (type_of v) ops i) ∙ ap (λ (xs : List ScalarType). slice_get xs i) all ∙ one.1 ∙ ap (λ (t : ScalarType). Some t) (sym parameter) in
     subst (λ (j : ℕ). IsSomeAnd (slice_get ops j) (λ a. type_of v a ≡ type_of_component (version_at m other c) i)) (sym r.1)
     (some_and v (type_of_component (version_at m other c) i) (slice_get ops i) typed)

@@ -1,7 +1,7 @@
 -- The versions of a whole program are a well formed program of versions.
-use Rattle.std.proofs.Common.{◌≡◌, ◌≢◌, ◌+◌, ◌<◌, ◌≤◌, ℕ, zero, suc, List, [], ◌∷◌, length, map, take, get_or, Bool, true, false, true≢false, Some, None, refl, sym, ap, ◌∙◌, subst, arith, codes}
+use Rattle.std.proofs.Common.{◌≡◌, ◌≢◌, ◌+◌, ◌<◌, ◌≤◌, ℕ, zero, suc, List, [], ◌∷◌, length, map, take, Bool, true, false, true≢false, Some, None, refl, sym, ap, ◌∙◌, subst, arith, codes}
 use Rattle.std.specs.Prelude.{All, Option, ◌&&◌, ◌||◌, not, slice_get, filter, option_map, nat_eq, position}
-use Rattle.std.specs.List.{flat_map, list_all, list_any, zip, enumerate_from}
+use Rattle.std.specs.List.{flat_map, list_all, list_any, zip}
 use Rattle.std.specs.Option.{option_map_or, option_and_then}
 use Rattle.std.specs.Str.{bytes_eq}
 use Rattle.std.proofs.lemmas.Bool.Decides.{nat_tests}
@@ -37,7 +37,6 @@ use Rattle.gimple_ir.specs.Statements.{ByNumber, component_types, is_comparison,
 use Rattle.gimple_ir.specs.Statements as source
 use Rattle.gimple_ir.specs.Checks.{scope_in, knows_struct, faults_from, fault_at, struct_fault, array_fault, function_fault, statements_fault, names_before, head_kind, bound_kind, body_of, labels_stand, counts_fit, ends_closed, is_extern}
 use Rattle.gimple_ir.specs.Programs.{IsChecked, IsIdentifier, AgreesIn, IsOperand, HasValues}
-use Rattle.gimple_meaning.specs.Source.{operands_of}
 use Rattle.func_summary.proofs.Checked.{both-true, below, all_at, three-none, fault_at-none, faults_from-none, first_failed-none}
 use Rattle.ipa_transform.specs.Versioned.{step_of, picked, kept_of}
 use Rattle.ipa_transform.specs.Versioned as lowered
@@ -45,16 +44,16 @@ use Rattle.rv64_select.specs.Assembly.{type_of, type_of_component}
 use Rattle.plain_link.specs.Numbers.{is_body, function_number}
 use Rattle.plain_link.specs.Lowering.{functions_of, bindings_of, member_of}
 use Rattle.plain_link.specs.Linking.{is_declared_function, names_declaration, is_main, is_global, gives_int}
-use Rattle.plain_link.proofs.Facts.{three_true, four_true, all_true, Facts, facts}
 use Rattle.plain_link.proofs.Fitting.{version_fits}
+use Rattle.plain_link.proofs.Facts.{three_true, four_true, all_true, Facts, facts}
 use Rattle.machine_laws.specs.Linked.{callee_number}
 use Rattle.machine_laws.specs.Typed.{TargetTyped, ArgumentsTyped, StepTyped, FunctionTyped, ProgramTyped}
 use Rattle.lowering_laws.specs.Whole.{IsWhole}
-use Rattle.lowering_laws.specs.Linked.{given_type, result_type_of, linked_of}
+use Rattle.lowering_laws.specs.Linked.{result_type_of, linked_of}
 use Rattle.lowering_laws.proofs.Numbered.{from_items, enumerated, ranged}
-use Rattle.lowering_laws.proofs.Named.{version_at, IsFound, function_found, names_none}
-use Rattle.lowering_laws.proofs.Bodies.{types_of, calls_before, step_at, pairs_same}
-use Rattle.lowering_laws.proofs.Uses.{Known, code_at, known}
+use Rattle.lowering_laws.proofs.Named.{version_at, function_found, names_none}
+use Rattle.lowering_laws.proofs.Bodies.{calls_before, step_at, pairs_same}
+use Rattle.lowering_laws.proofs.Uses.{Known, known}
 use Rattle.lowering_laws.proofs.Acting.{types_same}
 use Rattle.lowering_laws.proofs.Labelled.{labels_once}
 use Rattle.lowering_laws.proofs.Typing.{there, component_type, alike_is, operands_alike, operand_type, Agree, copies_typed}
@@ -69,11 +68,10 @@ version_there m g f here =
     enumerated (λ e. version_at m e.0 e.1) 0 (defined m) g ∙ ap (option_map (λ (x : Function). version_at m (0 + g) x)) here ∙ ap (λ (n : ℕ). Some (version_at m n f)) first
 
 agree_of : (m : Module) (f : Function) → Facts m f → Agree m f.variables
-agree_of m f k x w here =
-    (
-      (all_at (λ v. IsIdentifier v.name × AgreesIn m.structs v.ty v.types) f.variables k.stated.variables x w here).1,
-      all_true (λ v. knows_struct (length m.structs) v.ty) f.variables k.structs x w here,
-    )
+agree_of m f k x w here = (
+  (all_at (λ v. IsIdentifier v.name × AgreesIn m.structs v.ty v.types) f.variables k.stated.variables x w here).1,
+  all_true (λ v. knows_struct (length m.structs) v.ty) f.variables k.structs x w here,
+)
 
 -- ---- main
 
@@ -137,9 +135,8 @@ call_typed m main number f n to g args whole k values names counts types declare
     let count = same_number (length args) c.parameters (ap (λ (o : Option Function). option_map_or (λ called. nat_eq (length args) called.parameters) o true) (sym found.here) ∙ counts) in
     let each = ap (λ (o : Option Function). option_map_or (λ called. list_all (λ pair. argument_fits sc pair.0 pair.1) (zip args called.variables)) o false) (sym found.here) ∙ fit.0 in
     let result = λ (ty : ScalarType) (e : type_of_call sc g ≡ Some ty).
-            result_is m F c found.there ∙ given_is c.result ty (ap (λ (o : Option Function). option_and_then (λ called. type_of_result called.result) o) (sym found.here) ∙ e) in
-    let typed = passed_typed m number F f c args (agree_of m f k) (agree_of m c other) count other.stated.parameters each in
-    (
+    result_is m F c found.there ∙ given_is c.result ty (ap (λ (o : Option Function). option_and_then (λ called. type_of_result called.result) o) (sym found.here) ∙ e) in
+    let typed = passed_typed m number F f c args (agree_of m f k) (agree_of m c other) count other.stated.parameters each in (
       subst (λ (ops : List Operand). All IsOperand ops) (sym stands.1) (argument_values f.variables args values),
       subst (λ (j : ℕ). TargetTyped v to (result_type_of m j)) (sym callee) (target_typed m number f to (type_of_call sc g) (result_type_of m F) fit.1 result),
       λ called at.
@@ -265,7 +262,7 @@ function_typed : (m : Module) (main number place : ℕ) (f : Function) → IsWho
     → FunctionTyped (linked_of m main) number (version_at m number f)
 function_typed m main number place f whole own here =
     let all : length (version_at m number f).types ≡ components_in f.variables =
-            ap (λ (ts : List ScalarType). length ts) (types_same f.variables) ∙ length-flat_map (λ (v : Variable). v.types) f.variables in
+    ap (λ (ts : List ScalarType). length ts) (types_same f.variables) ∙ length-flat_map (λ (v : Variable). v.types) f.variables in
     record {
       versioned = version_fits m place number f whole.checked here;
       labels = labels_once m number f (labels_pass m place f whole.checked here);

@@ -1,13 +1,13 @@
 -- The types of components, operands, fields and arguments of a version are those of its function.
-use Rattle.std.proofs.Common.{◌≡◌, ◌+◌, ◌<◌, ◌≤◌, ℕ, zero, suc, List, [], ◌∷◌, ◌++◌, length, map, take, drop, get_or, Bool, true, false, true≢false, Some, None, refl, sym, ap, ap₂, ◌∙◌, subst, arith, take-append-drop, length-append}
-use Rattle.std.specs.Prelude.{All, Option, slice_get, unwrap_or, sum_by, nat_eq, nat_lt, MatchOption}
+use Rattle.std.proofs.Common.{◌≡◌, ◌+◌, ◌<◌, ◌≤◌, ℕ, zero, suc, List, [], ◌∷◌, ◌++◌, length, map, take, drop, true, false, true≢false, Some, None, refl, sym, ap, ap₂, ◌∙◌, subst, arith, take-append-drop}
+use Rattle.std.specs.Prelude.{All, Option, slice_get, unwrap_or, nat_eq, MatchOption}
 use Rattle.std.specs.List.{flat_map, list_all, zip}
 use Rattle.std.specs.Option.{option_map_or}
 use Rattle.std.proofs.lemmas.Bool.Decides.{nat_tests}
-use Rattle.std.proofs.lemmas.Option.{none-some, same_Some, slice_get-get_or}
+use Rattle.std.proofs.lemmas.Option.{none-some, same_Some}
 use Rattle.std.proofs.lemmas.Grind.{flat_map-append}
 use Rattle.std.proofs.lemmas.List.{map-append}
-use Rattle.std.proofs.lemmas.List.Elements.{All-nil, All-cons, All-head, All-tail}
+use Rattle.std.proofs.lemmas.List.Elements.{All-nil, All-cons}
 use Rattle.std.proofs.lemmas.List.Sums.{sum_by-cons}
 use Rattle.gimple_ir.specs.declared.types.ScalarType.{ScalarType}
 use Rattle.gimple_ir.specs.declared.types.ScalarType.TheVariants.{Int}
@@ -23,7 +23,7 @@ use Rattle.gimple_ir.specs.declared.types.Function.{Function}
 use Rattle.gimple_ir.specs.declared.types.Module.{Module}
 use Rattle.gimple_ir.specs.declared.versioned.Pair.{Pair}
 use Rattle.gimple_ir.specs.declared.versioned.VersionedFunction.{VersionedFunction}
-use Rattle.gimple_ir.specs.CodeBound.{components_in, components_of}
+use Rattle.gimple_ir.specs.CodeBound.{components_of}
 use Rattle.gimple_ir.specs.Statements.{ByNumber, component_types, knows_operand, is_of_type, same_struct, structs_fit, whole_fits, argument_fits, alike}
 use Rattle.gimple_ir.specs.Statements as source
 use Rattle.gimple_ir.specs.Checks.{scope_in, knows_struct}
@@ -32,7 +32,6 @@ use Rattle.gimple_meaning.specs.Source.{first_component, components_from, pairs_
 use Rattle.func_summary.proofs.Checked.{both-true, below, same_type-is}
 use Rattle.rv64_select.specs.Assembly.{type_of, type_of_component}
 use Rattle.lowering_laws.proofs.Named.{version_at}
-use Rattle.lowering_laws.proofs.Bodies.{types_of}
 use Rattle.lowering_laws.proofs.Acting.{types_same}
 
 -- ---- lists

@@ -1,0 +1,17 @@
+pub mod Lists
+pub mod Memory
+pub mod Frames
+pub mod Operands
+pub mod Places
+pub mod Words
+pub mod Answering
+pub mod PlainRows
+pub mod Types
+pub mod Computing
+pub mod ValueRows
+pub mod TestRows
+pub mod BuiltinRows
+pub mod ReturnRows
+pub mod CallRows
+pub mod Forms
+pub mod Sums

@@ -1,16 +1,16 @@
 -- From what a step's words do at the newest frame to a row of the step table.
-use Rattle.std.proofs.Common.{◌≡◌, ℕ, suc, ◌+◌, ◌-◌, ◌<◌, List, [], ◌∷◌, ◌++◌, length, Option, Some, None, refl, sym, ap, ◌∙◌, subst, arith, append-nil}
-use Rattle.std.specs.Prelude.{slice_get, map}
+use Rattle.std.proofs.Common.{◌≡◌, ℕ, ◌+◌, ◌-◌, ◌<◌, List, [], ◌∷◌, length, Option, Some, None, refl, sym, ap, ◌∙◌, subst, arith}
+use Rattle.std.specs.Prelude.{slice_get}
 use Rattle.std.specs.Option.{option_map_or, option_map, option_and_then}
 use Rattle.std.proofs.lemmas.Option.{slice_get-map}
 use Rattle.gimple_ir.specs.declared.versioned.Step.{Step}
 use Rattle.gimple_ir.specs.declared.versioned.VersionedFunction.{VersionedFunction}
-use Rattle.gimple_meaning.specs.Acts.{Store, Act, Fault, needing}
+use Rattle.gimple_meaning.specs.Acts.{Store, Act, needing}
 use Rattle.gimple_meaning.specs.Systems.{System, Frame, Machine, Running, step, next, applied, store_of}
 use Rattle.gimple_meaning.specs.Systems as program
 use Rattle.gimple_meaning.specs.Steps.{Code, act, act_in, act_at}
 use Rattle.rv64_meaning.specs.Machine.{Segments, State}
-use Rattle.follow_laws.specs.Relation.{Comes, Leads, ComesTo, Advances, Works, Rests}
+use Rattle.follow_laws.specs.Relation.{Leads, ComesTo, Advances, Works, Rests}
 use Rattle.follow_laws.proofs.WayLaws.{leads_on, leads_twice, comes_of, comes_to_end}
 use Rattle.machine_laws.specs.Linked.{LinkedProgram, linked_step, linked_code, linked_system, step_in, step_now, steps_left_in, steps_left}
 use Rattle.machine_laws.specs.Layouts.{Layout}

@@ -1,6 +1,6 @@
 -- Rows of the builtin functions: putchar and getchar by their stubs, and exit.
-use Rattle.std.proofs.Common.{◌≡◌, ℕ, zero, suc, ◌+◌, ◌-◌, ◌*◌, ◌%◌, ◌^◌, ◌<◌, ◌≤◌, ℤ, pos, negsuc, List, [], ◌∷◌, ◌++◌, length, true, Option, Some, None, All, inl, inr, refl, sym, ap, ◌∙◌, subst, arith, append-nil}
-use Rattle.std.specs.Prelude.{slice_get, slice_set, take, drop, codes}
+use Rattle.std.proofs.Common.{◌≡◌, ℕ, ◌+◌, ◌-◌, ◌%◌, ◌^◌, ◌<◌, ◌≤◌, ℤ, pos, List, [], ◌∷◌, ◌++◌, length, true, Option, Some, None, inl, inr, refl, sym, ap, ◌∙◌, subst, arith}
+use Rattle.std.specs.Prelude.{slice_get, take, drop}
 use Rattle.std.proofs.Math.Nat.{mod-one}
 use Rattle.std.proofs.lemmas.Int.{ints}
 use Rattle.std.proofs.lemmas.Bool.Decides.{nat_tests}
@@ -9,24 +9,21 @@ use Rattle.gimple_ir.specs.Values.{IsValue, value_of}
 use Rattle.gimple_ir.specs.declared.types.ScalarType.TheVariants.{Int}
 use Rattle.gimple_ir.specs.declared.types.Operand.{Operand}
 use Rattle.gimple_ir.specs.declared.types.Value.{Value}
-use Rattle.gimple_ir.specs.declared.versioned.Step.{Step}
 use Rattle.gimple_ir.specs.declared.versioned.Step.TheVariants.{Putchar, Getchar, Exit}
 use Rattle.gimple_ir.specs.declared.versioned.VersionedFunction.{VersionedFunction}
 use Rattle.gimple_meaning.specs.Acts.{Goes, Exits, value_at, low_byte, read_byte, unread}
-use Rattle.gimple_meaning.specs.Systems.{Frame, Machine, moved, store_of}
+use Rattle.gimple_meaning.specs.Systems.{Frame, Machine, store_of}
 use Rattle.rv64_isa.specs.declared.instr.Instr.TheVariants.{Addi, Ecall}
-use Rattle.rv64_meaning.specs.Machine.{Segments, State, store, store_bytes, can_store}
+use Rattle.rv64_meaning.specs.Machine.{Segments, State, can_store}
 use Rattle.rv64_abi.specs.Offsets.{call}
-use Rattle.rv64_frame.specs.Frames.{frame_of, frame_size}
-use Rattle.rv64_select.specs.declared.item.Symbol.{Symbol}
+use Rattle.rv64_frame.specs.Frames.{frame_of}
 use Rattle.rv64_select.specs.declared.item.Symbol.TheVariants as symbols
 use Rattle.rv64_select.specs.declared.item.Item.{Item}
 use Rattle.rv64_select.specs.declared.item.Item.TheVariants as item
-use Rattle.rv64_select.specs.Assembly.{plain, operand_in, set_in, assign_in}
-use Rattle.rv64_select.specs.Code.{Places, direct}
-use Rattle.rv64_select.specs.Versioned.{ComponentFits, OperandFits, StepFits}
+use Rattle.rv64_select.specs.Assembly.{plain, operand_in, assign_in}
+use Rattle.rv64_select.specs.Versioned.{StepFits}
 use Rattle.final_link.specs.Stubs.{putchar_address, getchar_address}
-use Rattle.follow_laws.specs.Relation.{StandsAt, ComesTo, EndsWith, Leads}
+use Rattle.follow_laws.specs.Relation.{StandsAt, ComesTo, EndsWith}
 use Rattle.follow_laws.specs.Follows.{AreBytes}
 use Rattle.follow_laws.specs.Effects.{called, next_byte}
 use Rattle.follow_laws.specs.Frames.{form_of}
@@ -38,12 +35,12 @@ use Rattle.machine_laws.specs.Linked.{LinkedProgram, linked_system}
 use Rattle.machine_laws.specs.Typed.{ProgramTyped}
 use Rattle.machine_laws.specs.Layouts.{Layout, IsPlaced, places_in, place_address}
 use Rattle.machine_laws.specs.Relation.{Holds, AtFrame}
-use Rattle.machine_laws.proofs.Lists.{all_at}
+use Rattle.machine_laws.proofs.Lists.{all_at, some_same}
 use Rattle.machine_laws.proofs.Memory.{SameFrom, SameBelow, store_kept, bytes_kept}
 use Rattle.machine_laws.proofs.Frames.{room_of}
-use Rattle.machine_laws.proofs.Places.{Here, here}
+use Rattle.machine_laws.proofs.Places.{here}
 use Rattle.machine_laws.proofs.Operands.{FitsComponent, kept_holds, value_got}
-use Rattle.machine_laws.proofs.Words.{Stretch, front_stands, behind, call_stands, behind_call, reaches_here, lead_on}
+use Rattle.machine_laws.proofs.Words.{Stretch, front_stands, behind, call_stands, behind_call, reaches_here, lead_on, ended}
 use Rattle.machine_laws.proofs.Answering.{RowAt, works, needing_answers}
 use Rattle.machine_laws.proofs.PlainRows.{stretch, arrived}
 use Rattle.machine_laws.proofs.ValueRows.{assigns}
@@ -173,18 +170,12 @@ module _ (m : Segments) (l : Layout) (p : LinkedProgram) (w : IsPlaced m l p) (t
         };
       }
 
-  some_value : (u v : Value) → Some u ≡ Some v → u ≡ v
-  some_value u v e = cc
-
   pub getchar_at : (to : Option ℕ) → RowAt m l p (Getchar to)
   getchar_at None q frame older s a e =
       let f = a.function in
       works m l p s _ _
       (lead_on m s _ _ (reads None q frame older s a e)
       (λ t k. reaches_here m t _ (arrived m l p w typed frame older q.arrays (unread q.input) q.output f frame.components (frame.place + 1) t k.holds (ended t.pc (place_address l f (frame.place + 1)) k.code.ends))))
-    where
-      ended : (here there : ℕ) → there ≡ here + 4 * 0 → here ≡ there
-      ended here there h = omega (arith, h)
   getchar_at (Some to) q frame older s a e =
       let f = a.function in
       let g = frame.function in
@@ -192,10 +183,10 @@ module _ (m : Segments) (l : Layout) (p : LinkedProgram) (w : IsPlaced m l p) (t
       let fits = all_at (StepFits f) f.body frame.place (Getchar (Some to)) e checked.versioned.steps in
       let type = checked.steps frame.place (Getchar (Some to)) e in
       let r = value_of Int (read_byte q.input) in
-      let fit : FitsComponent f to (Some r) = λ v ev. let same = some_value r v ev in (ap (λ (x : Value). x.ty) (sym same) ∙ sym type, subst IsValue same (read_number q.input a.holds.input_bytes)) in
+      let fit : FitsComponent f to (Some r) = λ v ev. let same = some_same r v ev in (ap (λ (x : Value). x.ty) (sym same) ∙ sym type, subst IsValue same (read_number q.input a.holds.input_bytes)) in
       works m l p s _ _
       (reach_on m s _ _ (reads (Some to) q frame older s a e)
-      (λ t k. assigns m l p w typed frame older q.arrays (unread q.input) q.output f frame.components t to 10 (Some r) k.holds fits (λ v ev. k.value ∙ ap form_of (some_value r v ev)) fit refl refl k.code))
+      (λ t k. assigns m l p w typed frame older q.arrays (unread q.input) q.output f frame.components t to 10 (Some r) k.holds fits (λ v ev. k.value ∙ ap form_of (some_same r v ev)) fit refl refl k.code))
 
   pub exit_at : (x : Operand) → RowAt m l p (Exit x)
   exit_at x q frame older s a e =

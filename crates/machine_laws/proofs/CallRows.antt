@@ -1,9 +1,9 @@
 -- The row of a call: the arguments in the outgoing slots, the jump, and the entry of the function that is called.
-use Rattle.std.proofs.Common.{◌≡◌, ◌≢◌, ℕ, zero, suc, ◌+◌, ◌-◌, ◌*◌, ◌/◌, ◌%◌, ◌^◌, ◌<◌, ◌≤◌, ℤ, List, [], ◌∷◌, ◌++◌, length, Bool, true, false, Option, Some, None, All, inl, inr, refl, sym, ap, ◌∙◌, subst, arith, append_assoc, append-nil, length-append}
-use Rattle.std.specs.Prelude.{slice_get, slice_set, map, replicate, max, nat_lt, unwrap_or, IsSomeAnd}
+use Rattle.std.proofs.Common.{◌≡◌, ℕ, zero, suc, ◌+◌, ◌-◌, ◌*◌, ◌^◌, ◌<◌, ◌≤◌, ℤ, List, [], ◌∷◌, ◌++◌, length, Bool, true, false, Option, Some, None, All, inl, inr, refl, sym, ap, ◌∙◌, subst, arith, append_assoc, append-nil, length-append}
+use Rattle.std.specs.Prelude.{slice_get, slice_set, map, replicate, nat_lt, unwrap_or, IsSomeAnd}
 use Rattle.std.specs.Option.{option_map, option_map_or}
 use Rattle.std.proofs.lemmas.Nat.{mul-le}
-use Rattle.std.proofs.lemmas.Option.{slice_get-map, slice_get_within}
+use Rattle.std.proofs.lemmas.Option.{slice_get-map, slice_get_within, none-some}
 use Rattle.std.proofs.lemmas.List.{length-map}
 use Rattle.std.proofs.lemmas.List.Elements.{All-head, All-tail}
 use borrow.Author.Tests.{ltb-true}
@@ -16,7 +16,7 @@ use Rattle.gimple_ir.specs.declared.lattice.Binding.TheVariants as binding
 use Rattle.gimple_ir.specs.declared.versioned.Step.{Step}
 use Rattle.gimple_ir.specs.declared.versioned.Step.TheVariants.{Call}
 use Rattle.gimple_ir.specs.declared.versioned.VersionedFunction.{VersionedFunction}
-use Rattle.gimple_meaning.specs.Acts.{Calls, needing, cell, value_at}
+use Rattle.gimple_meaning.specs.Acts.{Calls, cell, value_at}
 use Rattle.gimple_meaning.specs.Systems.{Frame, Machine, fresh, entered, most_frames}
 use Rattle.gimple_meaning.specs.Steps.{Code, bound_by, bound, opened, opened_by}
 use Rattle.rv64_meaning.specs.Arithmetic.{bits64}
@@ -29,7 +29,7 @@ use Rattle.rv64_select.specs.declared.item.Item.{Item}
 use Rattle.rv64_select.specs.declared.item.Item.TheVariants as item
 use Rattle.rv64_select.specs.Templates.{constant, load_slot, store_slot, machine_form}
 use Rattle.rv64_select.specs.Assembly.{plain, operand_in, set_in, assign_in, type_of, type_of_component, enter_code, binding_items, bindings_items, entry_items, argument_items}
-use Rattle.rv64_select.specs.Code.{words_in, symbol_name, steps_code}
+use Rattle.rv64_select.specs.Code.{words_in, steps_code}
 use Rattle.rv64_select.proofs.Laying.{words-append, words-plain}
 use Rattle.rv64_select.specs.Versioned.{ComponentFits, OperandFits, StepFits}
 use Rattle.follow_laws.specs.Relation.{StandsAt, ComesTo, Leads}
@@ -38,19 +38,19 @@ use Rattle.follow_laws.specs.Follows.{AreBytes}
 use Rattle.follow_laws.specs.Frames.{form_of}
 use Rattle.follow_laws.specs.Selections.{address_of}
 use Rattle.follow_laws.proofs.WayLaws.{reach_on, leads_twice, stands_front}
-use Rattle.follow_laws.proofs.TemplateLaws.{set_other, constant_sets, load_sets, store_stores, call_goes, enter_makes_frame}
+use Rattle.follow_laws.proofs.TemplateLaws.{constant_sets, load_sets, store_stores, call_goes, enter_makes_frame}
 use Rattle.follow_laws.proofs.SelectionLaws.{form_fits}
 use Rattle.follow_laws.proofs.FrameLaws.{fresh_held}
 use Rattle.machine_laws.specs.Linked.{LinkedProgram, linked_code, linked_system, callee_number}
 use Rattle.machine_laws.specs.Typed.{AreTyped, ArgumentsTyped, ProgramTyped}
-use Rattle.machine_laws.specs.Layouts.{Layout, IsPlaced, FunctionPlaced, top, places_in, entry_code, place_address}
+use Rattle.machine_laws.specs.Layouts.{Layout, IsPlaced, top, places_in, entry_code, place_address}
 use Rattle.machine_laws.specs.Relation.{FrameStands, WaitsFor, FramesWait, ArraysHeld, Holds, AtFrame, GoesOn, Answers}
-use Rattle.machine_laws.proofs.Lists.{all_at}
+use Rattle.machine_laws.proofs.Lists.{all_at, some_same}
 use Rattle.machine_laws.proofs.Memory.{SameFrom, SameBelow, store_kept, waiting_kept, arrays_kept}
 use Rattle.machine_laws.proofs.Frames.{Room, waiting_room, waiting_below, waiting_aligned, top_aligned, room_of, reached}
-use Rattle.machine_laws.proofs.Places.{Here, here, body_at, entry_stands}
-use Rattle.machine_laws.proofs.Operands.{AreBits, FitsComponent, operand_typed, form_lt, set_same, holds_on, kept_holds, value_got, value_set}
-use Rattle.machine_laws.proofs.Words.{Stretch, front_stands, behind, grouped, call_stands, behind_call, behind_items, Reaches, reaches_here, reaches_of, reaches_on, lead_on, come_on}
+use Rattle.machine_laws.proofs.Places.{here, body_at, entry_stands}
+use Rattle.machine_laws.proofs.Operands.{AreBits, FitsComponent, operand_typed, form_lt, holds_on, kept_holds, value_got, value_set}
+use Rattle.machine_laws.proofs.Words.{Stretch, front_stands, behind, grouped, call_stands, behind_call, Reaches, reaches_here, reaches_of, reaches_on, lead_on, come_on, ended}
 use Rattle.machine_laws.proofs.Answering.{RowAt, works, needing_answers}
 use Rattle.machine_laws.proofs.PlainRows.{stretch}
 
@@ -64,14 +64,8 @@ passes_few (s ∷ body) (suc place) step e = omega (arith, passes_few body place
 
 cell-map : (cells : List (Option Value)) (args : List Operand) (j : ℕ) (v : Value) → cell (map (value_at cells) args) j ≡ Some v → (a : Operand) × (slice_get args j ≡ Some a) × (value_at cells a ≡ Some v)
 cell-map cells [] j v e = absurd (none-some v e)
-  where
-    none-some : (v : Value) → None ≡ Some v → ⊥
-    none-some v h = cc
 cell-map cells (a ∷ args) zero v e = (a, refl, e)
 cell-map cells (a ∷ args) (suc j) v e = cell-map cells args j v e
-
-some_operand : (a b : Operand) → Some a ≡ Some b → a ≡ b
-some_operand a b e = cc
 
 -- the first component that is unset gets something
 set-seam : (front back : List (Option Value)) (o : Option Value) → slice_set (front ++ None ∷ back) (length front) o ≡ (front ++ o ∷ []) ++ back
@@ -154,9 +148,6 @@ module _ (m : Segments) (l : Layout) (p : LinkedProgram) (w : IsPlaced m l p) (t
       → Stretch m (places_in l f) s.pc end (argument_items (frame_of f) j args ++ rest) → Reaches m s (Passed g f cells older arrays input output base j args end rest s)
   pass_run g f cells older arrays input output base j [] end rest s h at_base fits few items =
       reaches_here m s _ (record { holds = h; stack = at_base; place = omega arith; code = items; given = λ i v e. absurd (none-some v e); earlier = λ i less. refl })
-    where
-      none-some : (v : Value) → None ≡ Some v → ⊥
-      none-some v h = cc
   pass_run g f cells older arrays input output base j (a ∷ args) end rest s h at_base fits few items =
       let places = places_in l f in
       let get = operand_in (frame_of f) 5 a in
@@ -218,7 +209,7 @@ module _ (m : Segments) (l : Layout) (p : LinkedProgram) (w : IsPlaced m l p) (t
         holds = subst (λ (x : List (Option Value)). Holds l p g f x older arrays input output t) same c.holds;
         stack = c.others 2 refl ∙ sp;
         given = λ j v e.
-        ap (λ (x : ℕ → ℕ). load 8 x (up + 8 * j)) c.mem.1 ∙ load_apart 8 8 u.mem (u.reg 2 + component_slot f k) c.mem.0 (up + 8 * j) (inr (omega (arith, sp, inside))) ∙ given j v e;
+            ap (λ (x : ℕ → ℕ). load 8 x (up + 8 * j)) c.mem.1 ∙ load_apart 8 8 u.mem (u.reg 2 + component_slot f k) c.mem.0 (up + 8 * j) (inr (omega (arith, sp, inside))) ∙ given j v e;
         code = behind m places u.pc end t.pc set rest items c.place;
       }))
 
@@ -259,13 +250,10 @@ module _ (m : Segments) (l : Layout) (p : LinkedProgram) (w : IsPlaced m l p) (t
       let u = with_register t 5 (bits64 number) (length get) in
       let first = constant_sets m t 5 number (form_fits v.ty v.num) refl (front_stands m places t.pc end get (set ++ rest) parts) in
       let held = holds_on m l p w g f older arrays input output (front ++ None ∷ back) t u h refl refl refl refl in
-      let is : AreBits (Some v) (bits64 number) = λ y e. ap form_of (some_value v y e) in
-      let kind : FitsComponent f k (Some v) = λ y e. let same = some_value v y e in (ap (λ (z : Value). z.ty) (sym same) ∙ fit.0, subst IsValue same fit.1) in
+      let is : AreBits (Some v) (bits64 number) = λ y e. ap form_of (some_same v y e) in
+      let kind : FitsComponent f k (Some v) = λ y e. let same = some_same v y e in (ap (λ (z : Value). z.ty) (sym same) ∙ fit.0, subst IsValue same fit.1) in
       let c = bind_set g f older arrays input output args front back (Some v) k base end rest u len held sp given inside is kind (behind m places t.pc end u.pc get (set ++ rest) parts refl) in
       reaches_of m t _ (record { state = c.state; leads = leads_twice m t u c.state first c.leads; holds = c.holds })
-    where
-      some_value : (u v : Value) → Some u ≡ Some v → u ≡ v
-      some_value u v e = cc
 
   -- the frame is open: each parameter is bound
   record Opened (g : ℕ) (f : VersionedFunction) (cells : List (Option Value)) (older : List Frame) (arrays : List (List ℤ)) (input output : List ℕ) (end : ℕ) (t : State) : Type 0 where
@@ -281,9 +269,6 @@ module _ (m : Segments) (l : Layout) (p : LinkedProgram) (w : IsPlaced m l p) (t
       let same : front ++ replicate n None ≡ (front ++ []) ++ replicate (n - 0) None =
       ap (λ (x : List (Option Value)). x ++ replicate n None) (sym (append-nil front)) ∙ ap (λ j. (front ++ []) ++ replicate j None) (sym whole) in
       reaches_here m t _ (record { holds = subst (λ (x : List (Option Value)). Holds l p g f x older arrays input output t) same h; place = ended t.pc end items.ends })
-    where
-      ended : (here there : ℕ) → there ≡ here + 4 * 0 → here ≡ there
-      ended here there h = omega (arith, h)
   bind_run g f older arrays input output args front (b ∷ bs) k zero base end t len size few h sp given high fits items = absurd (omega (arith, few))
   bind_run g f older arrays input output args front (b ∷ bs) k (suc n) base end t len size few h sp given high fits items =
       let o = bound_by (Some b) args in
@@ -404,13 +389,7 @@ module _ (m : Segments) (l : Layout) (p : LinkedProgram) (w : IsPlaced m l p) (t
 
   named : (o : Option (List ℕ)) (g : ℕ) → option_map p.function_named o ≡ Some g → (symbol : List ℕ) × (o ≡ Some symbol) × (p.function_named symbol ≡ g)
   named None g e = absurd (none-some g e)
-    where
-      none-some : (g : ℕ) → None ≡ Some g → ⊥
-      none-some g h = cc
-  named (Some symbol) g e = (symbol, refl, some_number (p.function_named symbol) g e)
-    where
-      some_number : (a b : ℕ) → Some a ≡ Some b → a ≡ b
-      some_number a b h = cc
+  named (Some symbol) g e = (symbol, refl, some_same (p.function_named symbol) g e)
 
   some_and : (P : Operand → Type 0) (o : Option Operand) → IsSomeAnd o P → (a : Operand) × (o ≡ Some a) × P a
   some_and P None h = absurd h
@@ -423,14 +402,16 @@ module _ (m : Segments) (l : Layout) (p : LinkedProgram) (w : IsPlaced m l p) (t
       let same : i ≡ 0 + i = omega arith in
       subst (λ n. BindingFits fn (map (value_at cells) args) n b) same (record {
         argument = λ k is.
-        let found = some_and (λ a. type_of f a ≡ type_of_component fn i) (slice_get args k) (types i k (at ∙ ap Some is)) in
-        let a = found.0 in
-        let inside = slice_get_within args k a found.1 in
-        (omega (arith, inside, length-map args (value_at cells)), λ v e.
-        let c = cell-map cells args k v e in
-        let kind = operand_typed f cells c.0 v cells_typed c.2 (all_at IsOperand args k c.0 c.1 numbers) in
-        let which : c.0 ≡ a = some_operand c.0 a (sym c.1 ∙ found.1) in
-        (kind.0 ∙ ap (type_of f) which ∙ found.2, kind.1));
+            let found = some_and (λ a. type_of f a ≡ type_of_component fn i) (slice_get args k) (types i k (at ∙ ap Some is)) in
+            let a = found.0 in
+            let inside = slice_get_within args k a found.1 in (
+              omega (arith, inside, length-map args (value_at cells)),
+              λ v e.
+                  let c = cell-map cells args k v e in
+                  let kind = operand_typed f cells c.0 v cells_typed c.2 (all_at IsOperand args k c.0 c.1 numbers) in
+                  let which : c.0 ≡ a = some_same c.0 a (sym c.1 ∙ found.1) in
+                  (kind.0 ∙ ap (type_of f) which ∙ found.2, kind.1),
+            );
         constant_fits = λ v is. (typed.functions g fn known).constants i v (at ∙ ap Some is);
       })
 

@@ -1,7 +1,7 @@
 -- Instructions that compute: a result in t0, of what t0 and t1 have.
 use Rattle.std.proofs.Common.{◌≡◌, ℕ, ◌+◌, ◌*◌, List, [], ◌∷◌, ◌++◌, length, refl, sym, ap, ◌∙◌, subst, arith, length-append}
 use Rattle.rv64_isa.specs.declared.instr.Instr.{Instr}
-use Rattle.rv64_meaning.specs.Machine.{Segments, State, Go, Next, effect, put}
+use Rattle.rv64_meaning.specs.Machine.{Segments, State, Go, effect, put}
 use Rattle.follow_laws.specs.Relation.{StandsAt}
 use Rattle.follow_laws.specs.Effects.{Differ}
 use Rattle.follow_laws.proofs.WayLaws.{one, comes_of, stands_front, stands_back}

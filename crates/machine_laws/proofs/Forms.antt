@@ -1,15 +1,13 @@
 -- Machine forms of numbers: by the low bits, which decide them.
-use Rattle.std.proofs.Common.{◌≡◌, ℕ, zero, suc, ◌+◌, ◌-◌, ◌*◌, ◌/◌, ◌%◌, ◌^◌, ◌<◌, ◌≤◌, ℤ, pos, negsuc, neg_ℤ, ◌+ℤ◌, ◌-ℤ◌, ◌*ℤ◌, Bool, true, false, cond, Option, Some, None, inl, inr, refl, sym, ap, ap₂, ◌∙◌, subst, arith}
-use Rattle.std.specs.Prelude.{unsigned_abs, nat_lt, int_le, ◌==◌, if◌then◌else◌}
+use Rattle.std.proofs.Common.{◌≡◌, ℕ, zero, suc, ◌+◌, ◌-◌, ◌*◌, ◌%◌, ◌^◌, ◌<◌, ℤ, pos, negsuc, neg_ℤ, ◌+ℤ◌, ◌*ℤ◌, Bool, true, false, cond, Some, None, refl, sym, ap, ap₂, ◌∙◌, arith}
+use Rattle.std.specs.Prelude.{nat_lt, if◌then◌else◌}
 use Rattle.std.specs.Int.{w32, w64, int_wrap, cast_signed, cast_unsigned}
 use mir.Syntax.{Width}
 use mir.Val.{bits}
-use Rattle.std.specs.Ordering.{int_eq}
 use Rattle.std.proofs.Math.Pow.{pow_pos, mod-mod-pow}
 use Rattle.std.proofs.Math.Nat.{mod-lt}
 use Rattle.std.proofs.lemmas.Nat.{mul-mod}
 use Rattle.std.proofs.lemmas.Int.{ints, of_z-to_z, int_wrap-add_left, int_wrap-add_right, int_wrap-mul_left, int_wrap-mul_right, wrapping_add-bits, wrapping_mul-bits}
-use Rattle.std.proofs.lemmas.Bool.Decides.{nat_tests}
 use Rattle.gimple_ir.specs.Values.{width, is_signed, greatest, in_range, IsValue, modulus, from_residue, reduced, value_of, result_of}
 use Rattle.gimple_ir.specs.Values as values
 use Rattle.gimple_ir.specs.declared.types.ScalarType.{ScalarType}
@@ -21,6 +19,7 @@ use Rattle.rv64_meaning.specs.Arithmetic.{bits64, of_word, add, sub, mul}
 use Rattle.rv64_select.specs.Templates.{machine_form}
 use Rattle.rv64_select.specs.Operations.{by_type}
 use Rattle.follow_laws.specs.Frames.{form_of}
+use Rattle.machine_laws.proofs.Lists.{some_same}
 
 -- the bits of a number in its type
 abbrev pub low_of : ScalarType → ℤ → ℕ
@@ -174,20 +173,17 @@ from_low LongUnsignedInt n h = grind (arith, ints)
 pub reduced_low : (ty : ScalarType) (z : ℤ) → low_of ty (reduced ty z) ≡ low_of ty z
 reduced_low ty z = ap (λ n. low_of ty (from_residue ty n)) (residue_same ty z) ∙ from_low ty (low_of ty z) (low_lt ty z)
 
-some_value : (u v : Value) → Some u ≡ Some v → u ≡ v
-some_value u v e = cc
-
 -- what a sum, difference or product gives has its bits
 pub result_low : (ty : ScalarType) (z : ℤ) (r : Value) → result_of ty z ≡ Some r → low_of ty r.num ≡ low_of ty z
 result_low Int z r e = tested (in_range Int z) e
   where
     tested : (t : Bool) → (if t then Some (value_of Int z) else None) ≡ Some r → low_of Int r.num ≡ low_of Int z
-    tested true h = ap (λ (v : Value). low_of Int v.num) (sym (some_value (value_of Int z) r h))
+    tested true h = ap (λ (v : Value). low_of Int v.num) (sym (some_same (value_of Int z) r h))
     tested false h = cc
-result_low UnsignedInt z r e = ap (λ (v : Value). low_of UnsignedInt v.num) (sym (some_value (value_of UnsignedInt (reduced UnsignedInt z)) r e)) ∙ reduced_low UnsignedInt z
+result_low UnsignedInt z r e = ap (λ (v : Value). low_of UnsignedInt v.num) (sym (some_same (value_of UnsignedInt (reduced UnsignedInt z)) r e)) ∙ reduced_low UnsignedInt z
 result_low LongInt z r e = tested (in_range LongInt z) e
   where
     tested : (t : Bool) → (if t then Some (value_of LongInt z) else None) ≡ Some r → low_of LongInt r.num ≡ low_of LongInt z
-    tested true h = ap (λ (v : Value). low_of LongInt v.num) (sym (some_value (value_of LongInt z) r h))
+    tested true h = ap (λ (v : Value). low_of LongInt v.num) (sym (some_same (value_of LongInt z) r h))
     tested false h = cc
-result_low LongUnsignedInt z r e = ap (λ (v : Value). low_of LongUnsignedInt v.num) (sym (some_value (value_of LongUnsignedInt (reduced LongUnsignedInt z)) r e)) ∙ reduced_low LongUnsignedInt z
+result_low LongUnsignedInt z r e = ap (λ (v : Value). low_of LongUnsignedInt v.num) (sym (some_same (value_of LongUnsignedInt (reduced LongUnsignedInt z)) r e)) ∙ reduced_low LongUnsignedInt z

@@ -15,3 +15,14 @@ pub mod ReturnRows
 pub mod CallRows
 pub mod Forms
 pub mod Sums
+pub mod Elements
+pub mod ArrayRows
+pub mod Following
+pub mod AllRows
+pub mod Numbers
+pub mod NumbersTests
+pub mod NumbersShifts
+pub mod NumbersBits
+pub mod NumbersQuotients
+pub mod NumbersComputed
+pub mod NumbersBranches

@@ -1,8 +1,6 @@
 -- What memory keeps where bytes of it stay: loads, frames and arrays.
-use Rattle.std.proofs.Common.{◌≡◌, ℕ, zero, suc, ◌+◌, ◌-◌, ◌*◌, ◌/◌, ◌%◌, ◌^◌, ◌<◌, ◌≤◌, ◌⊎◌, inl, inr, ℤ, List, [], ◌∷◌, length, Option, Some, None, refl, sym, ap, ◌∙◌, arith}
-use Rattle.std.specs.Prelude.{slice_get}
+use Rattle.std.proofs.Common.{◌≡◌, ℕ, zero, suc, ◌+◌, ◌*◌, ◌<◌, ◌≤◌, ◌⊎◌, inl, inr, ℤ, List, [], ◌∷◌, length, Option, refl, ap, ◌∙◌, arith}
 use Rattle.std.proofs.lemmas.Bool.{le-ltb, lt-leb, cond-false, and_left, and_right}
-use Rattle.gimple_ir.specs.declared.types.Array.{Array}
 use Rattle.gimple_ir.specs.declared.types.ElementType.{ElementType}
 use Rattle.gimple_ir.specs.declared.types.ElementType.TheVariants as element
 use Rattle.gimple_ir.specs.declared.types.ScalarType.TheVariants.{Int, UnsignedInt, LongInt, LongUnsignedInt}
@@ -14,8 +12,8 @@ use Rattle.rv64_frame.specs.Frames.{component_slot, return_slot, frame_size}
 use Rattle.final_link.specs.Arrays.{element_size}
 use Rattle.follow_laws.specs.Frames.{FrameHeld}
 use Rattle.machine_laws.specs.Linked.{LinkedProgram}
-use Rattle.machine_laws.specs.Layouts.{Layout, IsPlaced, ArrayPlaced}
-use Rattle.machine_laws.specs.Relation.{FrameStands, FramesWait, ElementHeld, ArraysHeld}
+use Rattle.machine_laws.specs.Layouts.{Layout, IsPlaced}
+use Rattle.machine_laws.specs.Relation.{FrameStands, FramesWait, ArraysHeld}
 
 -- the bytes from an address on are the same, and those below one
 abbrev pub SameFrom : ℕ → (ℕ → ℕ) → (ℕ → ℕ) → Type 0

@@ -1,6 +1,6 @@
 -- An operand into a register, and a register into a component, in a state that holds the frames.
-use Rattle.std.proofs.Common.{◌≡◌, ◌≢◌, ℕ, zero, suc, ◌+◌, ◌-◌, ◌*◌, ◌/◌, ◌%◌, ◌^◌, ◌<◌, ◌≤◌, ◌⊎◌, inl, inr, ℤ, Bool, true, false, cond, List, [], ◌∷◌, length, Option, Some, None, refl, sym, ap, ◌∙◌, subst, arith}
-use Rattle.std.specs.Prelude.{◌==◌, slice_get, slice_set}
+use Rattle.std.proofs.Common.{◌≡◌, ◌≢◌, ℕ, zero, suc, ◌+◌, ◌*◌, ◌^◌, ◌<◌, ◌≤◌, ◌⊎◌, inl, inr, ℤ, List, [], ◌∷◌, length, Option, Some, refl, sym, ap, ◌∙◌, subst, arith}
+use Rattle.std.specs.Prelude.{◌==◌, slice_set}
 use Rattle.std.proofs.lemmas.Bool.{cond-true, cond-false, eq-eqb, cases_eq, cases_lt}
 use Rattle.std.proofs.lemmas.List.{length-set}
 use Rattle.gimple_ir.specs.Values.{IsValue}
@@ -28,11 +28,12 @@ use Rattle.follow_laws.proofs.TemplateLaws.{set_other, store_stores}
 use Rattle.follow_laws.proofs.SelectionLaws.{operand_sets}
 use Rattle.follow_laws.proofs.FrameLaws.{operand_held}
 use Rattle.machine_laws.specs.Linked.{LinkedProgram}
-use Rattle.machine_laws.specs.Typed.{AreTyped, ProgramTyped}
-use Rattle.machine_laws.specs.Layouts.{Layout, IsPlaced, top}
+use Rattle.machine_laws.specs.Typed.{AreTyped}
+use Rattle.machine_laws.specs.Layouts.{Layout, IsPlaced}
 use Rattle.machine_laws.specs.Relation.{FrameStands, FramesWait, Holds}
 use Rattle.machine_laws.proofs.Memory.{SameFrom, SameBelow, store_kept, stands_kept, waiting_kept, arrays_kept}
-use Rattle.machine_laws.proofs.Frames.{Room, Reached, room_of, reached}
+use Rattle.machine_laws.proofs.Frames.{Reached, room_of, reached}
+use Rattle.machine_laws.proofs.Lists.{some_same}
 
 -- ---- components
 
@@ -52,14 +53,11 @@ cell_elsewhere (x ∷ cells) (suc i) (suc j) o h = cell_elsewhere cells i j o (�
 abbrev pub FitsComponent : VersionedFunction → ℕ → Option Value → Type 0
 FitsComponent f i o = (v : Value) → o ≡ Some v → (v.ty ≡ type_of_component f i) × IsValue v
 
-value_same : (u v : Value) → Some u ≡ Some v → u ≡ v
-value_same u v e = cc
-
 -- an operand that is set has a number of its type
 pub operand_typed : (f : VersionedFunction) (cells : List (Option Value)) (o : Operand) (v : Value) → AreTyped f cells → value_at cells o ≡ Some v → IsOperand o → (v.ty ≡ type_of f o) × IsValue v
 operand_typed f cells (Component i) v typed e number = typed i v e
 operand_typed f cells (Literal u) v typed e number =
-    let same = value_same u v e in
+    let same = some_same u v e in
     (ap (λ (x : Value). x.ty) (sym same), subst IsValue same number)
 
 typed_set : (f : VersionedFunction) (cells : List (Option Value)) (i : ℕ) (o : Option Value) → i < length cells → AreTyped f cells → FitsComponent f i o → AreTyped f (slice_set cells i o)

@@ -1,6 +1,6 @@
 -- Where the code of a step stands, and where labels lead.
-use Rattle.std.proofs.Common.{◌≡◌, ◌≢◌, ℕ, zero, suc, ◌+◌, ◌-◌, ◌*◌, ◌/◌, ◌%◌, ◌^◌, ◌<◌, ◌≤◌, ℤ, pos, Bool, true, false, cond, List, [], ◌∷◌, ◌++◌, length, Option, Some, None, refl, sym, ap, ◌∙◌, subst, arith, length-append}
-use Rattle.std.specs.Prelude.{◌==◌, slice_get, map}
+use Rattle.std.proofs.Common.{◌≡◌, ◌≢◌, ℕ, zero, suc, ◌+◌, ◌*◌, ◌%◌, ◌^◌, ◌<◌, ◌≤◌, pos, Bool, true, false, cond, List, [], ◌∷◌, ◌++◌, length, Some, None, refl, sym, ap, ◌∙◌, subst, arith, length-append}
+use Rattle.std.specs.Prelude.{slice_get, map}
 use Rattle.std.specs.List.{flat_map}
 use Rattle.std.proofs.lemmas.Bool.{eqb-true}
 use Rattle.gimple_ir.specs.declared.types.Operand.{Operand}
@@ -17,17 +17,17 @@ use Rattle.rv64_isa.specs.declared.instr.Instr.{Instr}
 use Rattle.rv64_isa.specs.declared.instr.Instr.TheVariants.{Bne, Add, Addi, Ecall}
 use Rattle.rv64_meaning.specs.Machine.{Segments, State}
 use Rattle.rv64_frame.specs.declared.layout.FrameLayout.{FrameLayout}
-use Rattle.rv64_frame.specs.Frames.{frame_of, slot_in, incoming_in, outgoing_slot, return_in}
+use Rattle.rv64_frame.specs.Frames.{frame_of, incoming_in, outgoing_slot, return_in}
 use Rattle.rv64_select.specs.declared.item.Symbol.TheVariants as symbols
 use Rattle.rv64_select.specs.declared.item.Item.{Item}
 use Rattle.rv64_select.specs.declared.item.Item.TheVariants as item
 use Rattle.rv64_select.specs.Templates.{constant, load_slot, store_slot, machine_form}
 use Rattle.rv64_select.specs.Operations.{branch, operation, unary_operation, conversion, scaling}
-use Rattle.rv64_select.specs.Assembly.{plain, operand_in, set_in, assign_in, type_of, type_of_component, element_of, enter_code, leave_code, binding_items, bindings_items, entry_items, return_items, case_items, pair_items, argument_items, address_items, step_items, assembly_of}
+use Rattle.rv64_select.specs.Assembly.{plain, operand_in, set_in, assign_in, type_of, type_of_component, element_of, enter_code, leave_code, binding_items, bindings_items, entry_items, return_items, case_items, pair_items, argument_items, address_items, step_items}
 use Rattle.rv64_select.specs.Code.{words_of, words_in, is_label, label_from, Places, resolved, step_code, steps_code}
 use Rattle.rv64_select.proofs.Laying.{words-cons, words-append, laid-append, length-direct}
 use Rattle.follow_laws.specs.Relation.{StandsAt}
-use Rattle.follow_laws.specs.Selections.{address_of, StepStands}
+use Rattle.follow_laws.specs.Selections.{address_of}
 use Rattle.follow_laws.proofs.WayLaws.{stands_back}
 use Rattle.follow_laws.proofs.SelectionLaws.{steps_stand}
 use Rattle.machine_laws.specs.Linked.{LinkedProgram, linked_step}

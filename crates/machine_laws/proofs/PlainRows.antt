@@ -1,43 +1,39 @@
 -- Rows of steps that move within a function: those without words, jumps, and copies of components.
-use Rattle.std.proofs.Common.{◌≡◌, ℕ, zero, suc, ◌+◌, ◌-◌, ◌*◌, ◌%◌, ◌^◌, ◌<◌, ◌≤◌, ℤ, pos, negsuc, ◌-ℤ◌, List, [], ◌∷◌, ◌++◌, length, Option, Some, None, All, inl, inr, refl, sym, ap, ◌∙◌, subst, arith, append-nil}
+use Rattle.std.proofs.Common.{◌≡◌, ℕ, suc, ◌+◌, ◌-◌, ◌^◌, ◌<◌, ℤ, pos, negsuc, ◌-ℤ◌, List, [], ◌∷◌, ◌++◌, length, Option, Some, All, inl, inr, refl, sym, ap, ◌∙◌, subst, arith, append-nil}
 use Rattle.std.specs.Prelude.{slice_get, slice_set}
 use Rattle.std.specs.List.{flat_map}
 use Rattle.std.proofs.lemmas.Bool.{cases_lt}
 use Rattle.std.proofs.lemmas.Int.{ints}
 use Rattle.std.proofs.lemmas.List.Elements.{All-head, All-tail}
 use Rattle.std.proofs.lemmas.Option.{slice_get_within}
-use Rattle.gimple_ir.specs.Values.{IsValue}
 use Rattle.gimple_ir.specs.Programs.{IsOperand}
-use Rattle.gimple_ir.specs.declared.types.Operand.{Operand}
-use Rattle.gimple_ir.specs.declared.types.Operand.TheVariants as operands
 use Rattle.gimple_ir.specs.declared.types.Value.{Value}
 use Rattle.gimple_ir.specs.declared.versioned.Pair.{Pair}
 use Rattle.gimple_ir.specs.declared.versioned.Step.{Step}
 use Rattle.gimple_ir.specs.declared.versioned.Step.TheVariants.{Nop, Label, Goto, Copies}
 use Rattle.gimple_ir.specs.declared.versioned.VersionedFunction.{VersionedFunction}
 use Rattle.gimple_meaning.specs.Acts.{Goes, value_at, copied}
-use Rattle.gimple_meaning.specs.Systems.{Frame, Machine, Running, moved, applied, store_of}
+use Rattle.gimple_meaning.specs.Systems.{Frame, Machine, moved, applied, store_of}
 use Rattle.gimple_meaning.specs.Steps.{place_of}
 use Rattle.rv64_isa.specs.declared.instr.Instr.TheVariants.{Jal}
 use Rattle.rv64_meaning.specs.Arithmetic.{plus}
 use Rattle.rv64_meaning.specs.Machine.{Segments, State, Go, fetch, put, goto}
 use Rattle.rv64_frame.specs.Frames.{frame_of}
 use Rattle.rv64_select.specs.declared.item.Item.{Item}
-use Rattle.rv64_select.specs.declared.item.Item.TheVariants as item
 use Rattle.rv64_select.specs.Assembly.{plain, operand_in, set_in, type_of, type_of_component, pair_items, step_items}
 use Rattle.rv64_select.specs.Code.{step_code}
 use Rattle.rv64_select.specs.Versioned.{ComponentFits, OperandFits, LabelFits, StepFits}
 use Rattle.follow_laws.specs.Relation.{ComesTo}
 use Rattle.follow_laws.proofs.WayLaws.{one, reach_on}
-use Rattle.machine_laws.specs.Linked.{LinkedProgram, linked_code, linked_step, linked_system}
-use Rattle.machine_laws.specs.Typed.{ProgramTyped, FunctionTyped, AreTyped}
+use Rattle.machine_laws.specs.Linked.{LinkedProgram, linked_code, linked_system}
+use Rattle.machine_laws.specs.Typed.{ProgramTyped}
 use Rattle.machine_laws.specs.Layouts.{Layout, IsPlaced, places_in, place_address}
-use Rattle.machine_laws.specs.Relation.{Holds, AtFrame, Related, Answers}
+use Rattle.machine_laws.specs.Relation.{Holds, AtFrame, Answers}
 use Rattle.machine_laws.proofs.Lists.{all_at}
-use Rattle.machine_laws.proofs.Places.{Here, here, place_near, label_lands, place_linked}
+use Rattle.machine_laws.proofs.Places.{here, place_near, label_lands, place_linked}
 use Rattle.machine_laws.proofs.Operands.{operand_typed, holds_on, value_got, value_set, FitsComponent}
-use Rattle.machine_laws.proofs.Words.{Stretch, front_stands, behind, plain_stands, plain_ends, grouped, jump_stands, Reaches, reaches_here, reaches_of, reaches_on, lead_on}
-use Rattle.machine_laws.proofs.Answering.{RowAt, does, works, rests}
+use Rattle.machine_laws.proofs.Words.{Stretch, front_stands, behind, grouped, Reaches, reaches_here, reaches_of, reaches_on, lead_on, ended}
+use Rattle.machine_laws.proofs.Answering.{RowAt, works, rests}
 
 -- a jump lands at its target
 jump_reaches : (from to : ℕ) → from < 2 ^ 30 → to < 2 ^ 30 → plus from (pos to -ℤ pos from) ≡ to
@@ -170,6 +166,3 @@ module _ (m : Segments) (l : Layout) (p : LinkedProgram) (w : IsPlaced m l p) (t
       (λ t j. reaches_on m t _ _ (copies_run g f older q.arrays q.input q.output (slice_set cells c.to (value_at cells c.from)) place cs t j.holds
       (All-tail (λ c. ComponentFits f c.to × OperandFits f c.from) c cs fit) (All-tail (λ c. IsOperand c.from × (type_of f c.from ≡ type_of_component f c.to)) c cs types) j.stretch)
       (λ u k. reaches_here m u _ (arrived frame older q.arrays q.input q.output f (copied cells (c ∷ cs)) (frame.place + 1) u k.holds (ended u.pc place k.stretch.ends)))))
-    where
-      ended : (here there : ℕ) → there ≡ here + 4 * 0 → here ≡ there
-      ended here there h = omega (arith, h)

@@ -1,42 +1,41 @@
 -- The row of a return: the frame is given back, and the caller's call is done; the first frame's return ends the run.
-use Rattle.std.proofs.Common.{◌≡◌, ◌≢◌, ℕ, zero, suc, ◌+◌, ◌-◌, ◌*◌, ◌%◌, ◌^◌, ◌<◌, ◌≤◌, ℤ, pos, List, [], ◌∷◌, ◌++◌, length, Option, Some, None, refl, sym, ap, ◌∙◌, subst, arith, append-nil}
-use Rattle.std.specs.Prelude.{slice_get, slice_set, map}
+use Rattle.std.proofs.Common.{◌≡◌, ℕ, ◌+◌, ◌-◌, ◌*◌, ◌%◌, ◌^◌, ◌<◌, ℤ, pos, List, [], ◌∷◌, ◌++◌, length, Option, Some, None, refl, sym, ap, ◌∙◌, subst, arith, append-nil}
+use Rattle.std.specs.Prelude.{slice_get}
 use Rattle.std.specs.Option.{option_map}
-use Rattle.std.proofs.lemmas.Option.{slice_get-map}
+use Rattle.std.proofs.lemmas.Option.{slice_get-map, none-some}
 use Rattle.gimple_ir.specs.Values.{IsValue}
 use Rattle.gimple_ir.specs.declared.types.Operand.{Operand}
 use Rattle.gimple_ir.specs.declared.types.Value.{Value}
 use Rattle.gimple_ir.specs.declared.versioned.Step.{Step}
 use Rattle.gimple_ir.specs.declared.versioned.Step.TheVariants.{Return, Call}
 use Rattle.gimple_ir.specs.declared.versioned.VersionedFunction.{VersionedFunction}
-use Rattle.gimple_meaning.specs.Acts.{Leaves, value_at, low_byte}
+use Rattle.gimple_meaning.specs.Acts.{Leaves, value_at}
 use Rattle.gimple_meaning.specs.Systems.{Frame, Machine, moved, received, resumed, status}
 use Rattle.gimple_meaning.specs.Systems as program
 use Rattle.gimple_meaning.specs.Steps.{Code, target_of, target_at}
 use Rattle.rv64_isa.specs.declared.instr.Instr.TheVariants.{Addi, Ecall}
-use Rattle.rv64_meaning.specs.Machine.{Segments, State, load}
-use Rattle.rv64_frame.specs.Frames.{frame_of, frame_size, return_slot, return_in}
+use Rattle.rv64_meaning.specs.Machine.{Segments, State}
+use Rattle.rv64_frame.specs.Frames.{frame_of, frame_size, return_slot}
 use Rattle.rv64_select.specs.declared.item.Symbol.TheVariants as symbols
-use Rattle.rv64_select.specs.declared.item.Item.{Item}
 use Rattle.rv64_select.specs.declared.item.Item.TheVariants as item
-use Rattle.rv64_select.specs.Assembly.{plain, operand_in, assign_in, argument_items, return_items, leave_code, step_items}
+use Rattle.rv64_select.specs.Assembly.{plain, operand_in, assign_in, argument_items, leave_code}
 use Rattle.rv64_select.specs.Code.{words_in}
 use Rattle.rv64_select.specs.Versioned.{TargetFits, StepFits}
 use Rattle.follow_laws.specs.Relation.{StandsAt, ComesTo, EndsWith}
 use Rattle.follow_laws.specs.Frames.{form_of}
-use Rattle.follow_laws.proofs.WayLaws.{reach_on, comes_of, comes_to_end, leads_twice}
+use Rattle.follow_laws.proofs.WayLaws.{comes_of, comes_to_end}
 use Rattle.follow_laws.proofs.TemplateLaws.{leave_returns}
 use Rattle.follow_laws.proofs.StubLaws.{exit_ends}
 use Rattle.follow_laws.proofs.FrameLaws.{low_byte_kept}
-use Rattle.machine_laws.specs.Linked.{LinkedProgram, linked_step, linked_code, linked_system, callee_number}
+use Rattle.machine_laws.specs.Linked.{LinkedProgram, linked_step, linked_code, linked_system}
 use Rattle.machine_laws.specs.Typed.{ProgramTyped, TargetTyped}
-use Rattle.machine_laws.specs.Layouts.{Layout, IsPlaced, top, places_in, place_address, first_return}
+use Rattle.machine_laws.specs.Layouts.{Layout, IsPlaced, places_in, place_address}
 use Rattle.machine_laws.specs.Relation.{FrameStands, WaitsFor, FramesWait, ArraysHeld, Holds, AtFrame, Answers}
-use Rattle.machine_laws.proofs.Lists.{all_at}
+use Rattle.machine_laws.proofs.Lists.{all_at, some_same}
 use Rattle.machine_laws.proofs.Frames.{room_of, reached}
-use Rattle.machine_laws.proofs.Places.{Here, here}
+use Rattle.machine_laws.proofs.Places.{here}
 use Rattle.machine_laws.proofs.Operands.{AreBits, FitsComponent, operand_typed, value_got}
-use Rattle.machine_laws.proofs.Words.{Stretch, front_stands, behind, plain_stands, behind_call, behind_items, Reaches, reaches_here, reaches_of, reaches_on, lead_on}
+use Rattle.machine_laws.proofs.Words.{Stretch, front_stands, behind, plain_stands, behind_call, behind_items, Reaches, reaches_here, reaches_of, reaches_on, lead_on, ended}
 use Rattle.machine_laws.proofs.Answering.{RowAt, works, needing_answers, after_lead}
 use Rattle.machine_laws.proofs.PlainRows.{stretch, arrived}
 use Rattle.machine_laws.proofs.ValueRows.{assigns}
@@ -48,9 +47,6 @@ receives_here p f g place to call args known e =
     let code = slice_get-map (linked_code p) p.functions g ∙ ap (option_map (linked_code p)) known in
     let body = slice_get-map (linked_step p f) f.body place ∙ ap (option_map (linked_step p f)) e in
     ap (λ (c : Option Code). target_at c place) code ∙ ap (λ (c : Option Step). target_of c) body
-
-some_value : (u v : Value) → Some u ≡ Some v → u ≡ v
-some_value u v e = cc
 
 module _ (m : Segments) (l : Layout) (p : LinkedProgram) (w : IsPlaced m l p) (typed : ProgramTyped p) where
   -- ---- behind a call
@@ -150,9 +146,6 @@ module _ (m : Segments) (l : Layout) (p : LinkedProgram) (w : IsPlaced m l p) (t
       → Reaches m t (AtFrame l p (moved caller (caller.place + 1) (received to value caller.components)) older arrays input (output ++ []))
   received_at caller older arrays input output f None g value t h type fits result is code =
       reaches_here m t _ (arrived m l p w typed caller older arrays input output f caller.components (caller.place + 1) t h (ended t.pc (place_address l f (caller.place + 1)) code.ends))
-    where
-      ended : (here there : ℕ) → there ≡ here + 4 * 0 → here ≡ there
-      ended here there h = omega (arith, h)
   received_at caller older arrays input output f (Some to) g value t h type fits result is code =
       let fit : FitsComponent f to value = λ v e. let k = result v e in (k.0 ∙ sym type, k.1) in
       reaches_of m t _ (assigns m l p w typed caller older arrays input output f caller.components t to 10 value h fits is fit refl refl code)
@@ -201,9 +194,6 @@ module _ (m : Segments) (l : Layout) (p : LinkedProgram) (w : IsPlaced m l p) (t
       let items = stretch m l p w typed frame older q.arrays q.input q.output s (Return None) a e in
       let code = plain_stands m (places_in l f) s.pc (place_address l f (frame.place + 1)) (leave_code (frame_size f) (return_slot f)) items in
       gives older q g f frame.components None s (length f.body - frame.place) a.holds code (λ v none. absurd (none-some v none)) (λ v none. absurd (none-some v none)) (λ main. absurd (types main))
-    where
-      none-some : (v : Value) → None ≡ Some v → ⊥
-      none-some v h = cc
   return_at (Some x) q frame older s a e =
       let f = a.function in
       let g = frame.function in
@@ -225,6 +215,6 @@ module _ (m : Segments) (l : Layout) (p : LinkedProgram) (w : IsPlaced m l p) (t
       let k = c.holds in
       let kind = operand_typed f cells x v a.holds.newest.typed ev types.0 in
       let leave = plain_stands m places u.pc end code (behind m places s.pc end u.pc get (plain code) items k.place) in
-      let result : FitsResult g (Some v) = λ y ey. let same = some_value v y ey in (ap (λ (z : Value). z.ty) (sym same) ∙ kind.0 ∙ types.1, subst IsValue same kind.1) in
+      let result : FitsResult g (Some v) = λ y ey. let same = some_same v y ey in (ap (λ (z : Value). z.ty) (sym same) ∙ kind.0 ∙ types.1, subst IsValue same kind.1) in
       after_lead m l p s u left _ c.leads
-      (gives older q g f cells (Some v) u left k.holds leave result (λ y ey. k.value v ev ∙ ap form_of (some_value v y ey)) (λ main. (v, refl))))
+      (gives older q g f cells (Some v) u left k.holds leave result (λ y ey. k.value v ev ∙ ap form_of (some_same v y ey)) (λ main. (v, refl))))

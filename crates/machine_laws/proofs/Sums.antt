@@ -1,6 +1,6 @@
 -- Sums, differences, products, complements and conversions: what the instructions compute is the form of the result.
-use Rattle.std.proofs.Common.{◌≡◌, ℕ, zero, suc, ◌+◌, ◌-◌, ◌*◌, ◌/◌, ◌%◌, ◌^◌, ◌<◌, ◌≤◌, ℤ, pos, negsuc, neg_ℤ, ◌+ℤ◌, ◌-ℤ◌, ◌*ℤ◌, Bool, true, false, cond, List, [], ◌∷◌, Option, Some, None, refl, sym, ap, ap₂, ◌∙◌, subst, arith}
-use Rattle.std.specs.Prelude.{nat_lt, bit_xor, ◌==◌}
+use Rattle.std.proofs.Common.{◌≡◌, ℕ, zero, suc, ◌+◌, ◌-◌, ◌*◌, ◌/◌, ◌%◌, ◌^◌, ◌<◌, ℤ, pos, negsuc, neg_ℤ, ◌+ℤ◌, ◌-ℤ◌, ◌*ℤ◌, [], ◌∷◌, Some, refl, sym, ap, ap₂, ◌∙◌, subst, arith}
+use Rattle.std.specs.Prelude.{bit_xor, ◌==◌}
 use Rattle.std.specs.Ordering.{int_eq}
 use Rattle.std.proofs.Math.Nat.{mod-lt}
 use Rattle.std.proofs.Math.Pow.{pow_pos}
@@ -15,8 +15,9 @@ use Rattle.gimple_ir.specs.declared.types.UnaryOp.TheVariants as unary
 use Rattle.gimple_ir.specs.declared.types.BinaryOp.TheVariants as binary
 use Rattle.gimple_ir.specs.declared.types.Value.{Value}
 use Rattle.rv64_isa.specs.declared.instr.Instr.TheVariants.{Addw, Add, Subw, Sub, Mulw, Mul, Xori, Addiw, Slli, Srli}
-use Rattle.rv64_isa.specs.Format.{residue, signed}
-use Rattle.rv64_meaning.specs.Arithmetic.{bits64, of_word, plus, add, sub, mul, sll, srl}
+use Rattle.rv64_isa.specs.Format.{residue, signed, IsSigned}
+use Rattle.rv64_isa.proofs.FormatLaws.{signed-residue}
+use Rattle.rv64_meaning.specs.Arithmetic.{bits64, of_word, plus, add, sub, mul}
 use Rattle.rv64_select.specs.Operations.{operation, unary_operation, conversion}
 use Rattle.follow_laws.specs.Frames.{form_of}
 use Rattle.machine_laws.proofs.Types.{if_some, result_type}
@@ -24,6 +25,7 @@ use Rattle.machine_laws.proofs.Computing.{Computes, computes_none, computes_by, 
 use Rattle.machine_laws.proofs.Forms.{low_of, low_lt, residue_same, settled, settled_form, settled_value, form_low, form_below, low_sum, low_product, low_negative, add_low, sub_low, mul_low, from_low, reduced_low, result_low}
 use Rattle.machine_laws.proofs.ValueRows.{UnaryComputes, ConversionComputes, BinaryComputes}
 use Rattle.machine_laws.proofs.TestRows.{SameForms}
+use Rattle.machine_laws.proofs.Lists.{some_same}
 
 -- the low bits of a second operand of the same type
 low_at : (ty : ScalarType) (u : Value) → ty ≡ u.ty → form_of u % modulus ty ≡ low_of ty u.num
@@ -148,15 +150,12 @@ turned_settled UnsignedInt f h e = word_turned f h e
 turned_settled LongInt f h e = refl
 turned_settled LongUnsignedInt f h e = refl
 
-some_value : (u v : Value) → Some u ≡ Some v → u ≡ v
-some_value u v e = cc
-
 pub not_computes : UnaryComputes unary.Not
 not_computes v r b nv e =
     let ty = v.ty in
     let f = form_of v in
     let n = modulus ty - 1 - values.residue ty v.num in
-    let made = some_value (value_of ty (from_residue ty n)) r e in
+    let made = some_same (value_of ty (from_residue ty n)) r e in
     let x = 2 ^ 64 - 1 - f in
     let small = low_lt ty v.num in
     let same = residue_same ty v.num in
@@ -179,3 +178,102 @@ low_word v = of_type v.ty v.num (form_low v)
     of_type UnsignedInt z e = e
     of_type LongInt z e = long_low (form_of (value_of LongInt z)) z e
     of_type LongUnsignedInt z e = long_low (form_of (value_of LongUnsignedInt z)) z e
+
+plus_none : (f : ℕ) → f < 2 ^ 64 → plus f (pos 0) ≡ f
+plus_none f h = omega (arith, h)
+
+-- to 32 bits
+to_word : (ty : ScalarType) (v : Value) (z : ℤ) → form_of v % modulus ty ≡ low_of ty z → (x : ℕ) → x ≡ form_of v → settled ty x ≡ form_of (value_of ty (reduced ty z))
+to_word ty v z low x e = settled_form ty x (reduced ty z) (subst (λ n. n < 2 ^ 64) (sym e) (form_below v)) (ap (λ n. n % modulus ty) e ∙ low ∙ sym (reduced_low ty z))
+
+-- to 64 bits, whose bits are these
+to_long : (x : ℕ) (z : ℤ) → x ≡ residue (2 ^ 64) z → (x ≡ form_of (value_of LongInt (reduced LongInt z))) × (x ≡ form_of (value_of LongUnsignedInt (reduced LongUnsignedInt z)))
+to_long x z e =
+    let small : x < 2 ^ 64 = subst (λ n. n < 2 ^ 64) (sym e) (low_lt LongInt z) in
+    let same : x % 2 ^ 64 ≡ x = omega (arith, small) in
+    (settled_form LongInt x (reduced LongInt z) small (same ∙ e ∙ sym (reduced_low LongInt z)), settled_form LongUnsignedInt x (reduced LongUnsignedInt z) small (same ∙ e ∙ sym (reduced_low LongUnsignedInt z)))
+
+unsigned_bits : (z : ℤ) → InRange UnsignedInt z → residue (2 ^ 32) z ≡ residue (2 ^ 64) z
+unsigned_bits (pos n) h = let small : n < 2 ^ 32 = omega (arith, ints) in omega (arith, small)
+unsigned_bits (negsuc n) h = absurd (omega (arith, ints))
+
+signed_bits : (z : ℤ) → InRange Int z → bits64 (signed (2 ^ 32) (residue (2 ^ 32) z)) ≡ residue (2 ^ 64) z
+signed_bits z h = ap bits64 (signed-residue (2 ^ 32) z refl (in_word z h))
+  where
+    in_word : (z : ℤ) → InRange Int z → IsSigned (2 ^ 32) z
+    in_word (pos n) h = omega (arith, ints)
+    in_word (negsuc n) h = omega (arith, ints)
+
+shifted : (f : ℕ) → f * 2 ^ 32 % 2 ^ 64 / 2 ^ 32 ≡ f % 2 ^ 32
+shifted f = omega arith
+
+-- the code of a conversion to 64 bits leaves the number's bits
+long_computes : (ty : ScalarType) (z : ℤ) (b : ℕ) → InRange ty z → Computes (conversion LongInt ty) (form_of (value_of ty z)) b (residue (2 ^ 64) z)
+long_computes Int z b h = let f = form_of (value_of Int z) in computes_as [] f b f (residue (2 ^ 64) z) (signed_bits z h) (computes_none f b)
+long_computes UnsignedInt z b h =
+    let f = form_of (value_of UnsignedInt z) in
+    let up = f * 2 ^ 32 % 2 ^ 64 in
+    computes_as (conversion LongInt UnsignedInt) f b (up / 2 ^ 32) (residue (2 ^ 64) z) (shifted f ∙ form_low (value_of UnsignedInt z) ∙ unsigned_bits z h)
+    (computes_on (Slli 5 5 (pos 32) ∷ []) (Srli 5 5 (pos 32) ∷ []) f b up (up / 2 ^ 32)
+    (computes_by (Slli 5 5 (pos 32)) (λ x y. x * 2 ^ 32 % 2 ^ 64) f b (λ m s. refl)) (computes_by (Srli 5 5 (pos 32)) (λ x y. x / 2 ^ 32) up b (λ m s. refl)))
+long_computes LongInt z b h =
+    let f = form_of (value_of LongInt z) in
+    computes_as [] f b f (residue (2 ^ 64) z) (whole f (residue (2 ^ 64) z) (form_below (value_of LongInt z)) (form_low (value_of LongInt z))) (computes_none f b)
+  where
+    whole : (f n : ℕ) → f < 2 ^ 64 → f % 2 ^ 64 ≡ n → f ≡ n
+    whole f n h e = omega (arith, h, e)
+long_computes LongUnsignedInt z b h =
+    let f = form_of (value_of LongUnsignedInt z) in
+    computes_as [] f b f (residue (2 ^ 64) z) (whole f (residue (2 ^ 64) z) (form_below (value_of LongUnsignedInt z)) (form_low (value_of LongUnsignedInt z))) (computes_none f b)
+  where
+    whole : (f n : ℕ) → f < 2 ^ 64 → f % 2 ^ 64 ≡ n → f ≡ n
+    whole f n h e = omega (arith, h, e)
+
+word_computes : (a b : ℕ) → Computes (Addiw 5 5 (pos 0) ∷ []) a b (of_word (plus a (pos 0)))
+word_computes a b = computes_by (Addiw 5 5 (pos 0)) (λ x y. of_word (plus x (pos 0))) a b (λ m s. refl)
+
+long_code : (ty : ScalarType) → conversion LongUnsignedInt ty ≡ conversion LongInt ty
+long_code Int = refl
+long_code UnsignedInt = refl
+long_code LongInt = refl
+long_code LongUnsignedInt = refl
+
+pub convert_computes : ConversionComputes
+convert_computes Int v b nv = let f = form_of v in computes_as (conversion Int v.ty) f b (of_word (plus f (pos 0))) (form_of (convert_of Int v)) (to_word Int v v.num (low_word v) (plus f (pos 0)) (plus_none f (form_below v))) (word_computes f b)
+convert_computes UnsignedInt v b nv =
+    let f = form_of v in
+    computes_as (conversion UnsignedInt v.ty) f b (of_word (plus f (pos 0))) (form_of (convert_of UnsignedInt v)) (to_word UnsignedInt v v.num (low_word v) (plus f (pos 0)) (plus_none f (form_below v))) (word_computes f b)
+convert_computes LongInt v b nv =
+    computes_as (conversion LongInt v.ty) (form_of v) b (residue (2 ^ 64) v.num) (form_of (convert_of LongInt v)) (to_long (residue (2 ^ 64) v.num) v.num refl).0 (long_computes v.ty v.num b nv)
+convert_computes LongUnsignedInt v b nv =
+    subst (λ code. Computes code (form_of v) b (form_of (convert_of LongUnsignedInt v))) (sym (long_code v.ty))
+    (computes_as (conversion LongInt v.ty) (form_of v) b (residue (2 ^ 64) v.num) (form_of (convert_of LongUnsignedInt v)) (to_long (residue (2 ^ 64) v.num) v.num refl).1 (long_computes v.ty v.num b nv))
+
+-- ---- equal forms
+
+-- a number of the type is that of its low bits
+pub number_of_low : (ty : ScalarType) (z : ℤ) → InRange ty z → from_residue ty (low_of ty z) ≡ z
+number_of_low Int (pos n) h = grind (arith, nat_tests, ints)
+number_of_low Int (negsuc n) h = grind (arith, nat_tests, ints)
+number_of_low UnsignedInt (pos n) h = grind (arith, nat_tests, ints)
+number_of_low UnsignedInt (negsuc n) h = absurd (omega (arith, ints))
+number_of_low LongInt (pos n) h = grind (arith, nat_tests, ints)
+number_of_low LongInt (negsuc n) h = grind (arith, nat_tests, ints)
+number_of_low LongUnsignedInt (pos n) h = grind (arith, nat_tests, ints)
+number_of_low LongUnsignedInt (negsuc n) h = absurd (omega (arith, ints))
+
+pub number_of_form : (v u : Value) → IsValue v → IsValue u → v.ty ≡ u.ty → form_of v ≡ form_of u → u.num ≡ v.num
+number_of_form v u nv nu same e =
+    let ty = v.ty in
+    let in_type : InRange ty u.num = subst (λ k. InRange k u.num) (sym same) nu in
+    let low : low_of ty u.num ≡ low_of ty v.num = sym (low_at ty u same) ∙ ap (λ n. n % modulus ty) (sym e) ∙ form_low v in
+    sym (number_of_low ty u.num in_type) ∙ ap (from_residue ty) low ∙ number_of_low ty v.num nv
+
+pub form_of_number : (v u : Value) → v.ty ≡ u.ty → u.num ≡ v.num → form_of v ≡ form_of u
+form_of_number v u same e = ap (λ (k : ScalarType). form_of (value_of k v.num)) same ∙ ap (λ (z : ℤ). form_of (value_of u.ty z)) (sym e)
+
+pub same_forms : SameForms
+same_forms v u nv nu same =
+    let forms = Decides-eqb (form_of v) (form_of u) in
+    same_from_decides (form_of v == form_of u) (int_eq u.num v.num)
+    (Decides-like (form_of v == form_of u) (λ e. number_of_form v u nv nu same e) (λ e. form_of_number v u same e) forms) (Decides-int_eq u.num v.num)

@@ -1,25 +1,23 @@
 -- Rows of steps that test a value and jump: conditions and switches.
-use Rattle.std.proofs.Common.{◌≡◌, ℕ, ◌+◌, ◌-◌, ◌*◌, ◌%◌, ◌^◌, ◌<◌, ◌≤◌, ℤ, pos, ◌-ℤ◌, List, [], ◌∷◌, ◌++◌, length, Bool, true, false, cond, Option, Some, None, All, refl, sym, ap, ◌∙◌, subst, arith}
-use Rattle.std.specs.Prelude.{slice_get, slice_set, not, find, ◌==◌, if◌then◌else◌}
+use Rattle.std.proofs.Common.{◌≡◌, ℕ, ◌+◌, ◌-◌, ◌*◌, ◌^◌, ◌<◌, ℤ, pos, List, [], ◌∷◌, ◌++◌, length, Bool, true, false, cond, Option, Some, All, refl, sym, ap, ◌∙◌, subst, arith}
+use Rattle.std.specs.Prelude.{not, find, ◌==◌, if◌then◌else◌}
 use Rattle.std.specs.List.{flat_map}
 use Rattle.std.specs.Option.{option_map_or}
 use Rattle.std.specs.Ordering.{int_eq}
 use Rattle.std.proofs.lemmas.List.Elements.{All-head, All-tail}
 use Rattle.gimple_ir.specs.Values.{IsValue, binary_of}
 use Rattle.gimple_ir.specs.Statements.{is_comparison}
-use Rattle.gimple_ir.specs.declared.types.ScalarType.{ScalarType}
 use Rattle.gimple_ir.specs.declared.types.BinaryOp.{BinaryOp}
 use Rattle.gimple_ir.specs.declared.types.Case.{Case}
 use Rattle.gimple_ir.specs.declared.types.Operand.{Operand}
 use Rattle.gimple_ir.specs.declared.types.Value.{Value}
-use Rattle.gimple_ir.specs.declared.versioned.Step.{Step}
 use Rattle.gimple_ir.specs.declared.versioned.Step.TheVariants.{Cond, Switch}
 use Rattle.gimple_ir.specs.declared.versioned.VersionedFunction.{VersionedFunction}
 use Rattle.gimple_meaning.specs.Acts.{Goes, needing, value_at, operation_of, case_label}
-use Rattle.gimple_meaning.specs.Systems.{Frame, Machine, moved, store_of}
+use Rattle.gimple_meaning.specs.Systems.{Frame, moved, store_of}
 use Rattle.gimple_meaning.specs.Steps.{place_of}
 use Rattle.rv64_isa.specs.declared.instr.Instr.{Instr}
-use Rattle.rv64_isa.specs.declared.instr.Instr.TheVariants.{Jal, Bne}
+use Rattle.rv64_isa.specs.declared.instr.Instr.TheVariants.{Bne}
 use Rattle.rv64_meaning.specs.Arithmetic.{plus, bits64}
 use Rattle.rv64_meaning.specs.Machine.{Segments, State, Go, effect, goto, branch}
 use Rattle.rv64_frame.specs.Frames.{frame_of}
@@ -28,7 +26,7 @@ use Rattle.rv64_select.specs.declared.item.Item.TheVariants as item
 use Rattle.rv64_select.specs.Operations as selected
 use Rattle.rv64_select.specs.Templates.{constant, machine_form}
 use Rattle.rv64_select.specs.Assembly.{plain, operand_in, type_of, case_items}
-use Rattle.rv64_select.specs.Versioned.{OperandFits, LabelFits, StepFits}
+use Rattle.rv64_select.specs.Versioned.{LabelFits, StepFits}
 use Rattle.follow_laws.specs.Relation.{StandsAt, ComesTo}
 use Rattle.follow_laws.specs.Effects.{with_register}
 use Rattle.follow_laws.specs.Frames.{form_of}
@@ -42,7 +40,7 @@ use Rattle.machine_laws.specs.Relation.{Holds, AtFrame}
 use Rattle.machine_laws.proofs.Lists.{all_at}
 use Rattle.machine_laws.proofs.Places.{place_near}
 use Rattle.machine_laws.proofs.Operands.{operand_typed, holds_on, value_got}
-use Rattle.machine_laws.proofs.Words.{Stretch, front_stands, behind, grouped, jump_stands, behind_jump, Reaches, reaches_here, lead_on, come_on}
+use Rattle.machine_laws.proofs.Words.{Stretch, front_stands, behind, grouped, jump_stands, behind_jump}
 use Rattle.machine_laws.proofs.Answering.{RowAt, works, needing_answers}
 use Rattle.machine_laws.proofs.Types.{operation_is}
 use Rattle.machine_laws.proofs.PlainRows.{stretch, jumps}
@@ -176,7 +174,7 @@ module _ (m : Segments) (l : Layout) (p : LinkedProgram) (w : IsPlaced m l p) (t
 -- ---- the rows
 
 module _ (m : Segments) (l : Layout) (p : LinkedProgram) (w : IsPlaced m l p) (typed : ProgramTyped p) where
-  pub cond_at : (op : BinaryOp) (x y : Operand) (met missed : ℕ) → ComparisonBranches op → RowAt m l p (Cond op x y met missed)
+  pub cond_at : (op : BinaryOp) (x y : Operand) (met missed : ℕ) → (is_comparison op ≡ true → ComparisonBranches op) → RowAt m l p (Cond op x y met missed)
   cond_at op x y met missed branches q frame older s a e =
       let f = a.function in
       let g = frame.function in
@@ -195,7 +193,7 @@ module _ (m : Segments) (l : Layout) (p : LinkedProgram) (w : IsPlaced m l p) (t
       (λ r er.
       let kind_x = operand_typed f cells x v a.holds.newest.typed ev types.0 in
       let kind_y = operand_typed f cells y u a.holds.newest.typed eu types.1 in
-      let b = branches v u r kind_x.1 kind_y.1 (kind_x.0 ∙ types.3 ∙ sym kind_y.0) (operation_is op v u r er) in
+      let b = branches types.2 v u r kind_x.1 kind_y.1 (kind_x.0 ∙ types.3 ∙ sym kind_y.0) (operation_is op v u r er) in
       let code = selected.branch op (type_of f x) in
       let alone : code ≡ b.instruction ∷ [] = ap (selected.branch op) (sym kind_x.0) ∙ b.alone in
       let jumps_items = item.Jump missed ∷ (item.Jump met ∷ []) in

@@ -1,10 +1,10 @@
 -- The types of what operations give.
-use Rattle.std.proofs.Common.{◌≡◌, ℤ, Bool, true, false, cond, Option, Some, None, refl, sym, ap, ◌∙◌, subst}
+use Rattle.std.proofs.Common.{◌≡◌, ℤ, Bool, true, false, Option, Some, None, refl, sym, ◌∙◌, subst}
 use Rattle.std.specs.Prelude.{◌&&◌, IfSome, if◌then◌else◌}
 use Rattle.std.proofs.lemmas.Bool.{and_parts}
 use Rattle.gimple_ir.specs.Lattices.{same_type}
-use Rattle.gimple_ir.specs.Statements.{is_comparison, is_shift, binary_fits}
-use Rattle.gimple_ir.specs.Values.{is_signed, in_range, IsValue, value_of, result_of, truth_of, unary_of, binary_of, TypesFit}
+use Rattle.gimple_ir.specs.Statements.{is_comparison, binary_fits}
+use Rattle.gimple_ir.specs.Values.{in_range, value_of, result_of, unary_of, binary_of, TypesFit}
 use Rattle.gimple_ir.specs.declared.types.ScalarType.{ScalarType}
 use Rattle.gimple_ir.specs.declared.types.ScalarType.TheVariants.{Int, UnsignedInt, LongInt, LongUnsignedInt}
 use Rattle.gimple_ir.specs.declared.types.UnaryOp.{UnaryOp}

@@ -1,9 +1,8 @@
 -- Rows of steps that compute a value: unary and binary operations, and conversions.
-use Rattle.std.proofs.Common.{◌≡◌, ℕ, ◌+◌, ◌-◌, ◌*◌, ◌%◌, ◌^◌, ◌<◌, ◌≤◌, ℤ, List, [], ◌∷◌, ◌++◌, length, Bool, true, Option, Some, None, refl, sym, ap, ◌∙◌, subst, arith}
+use Rattle.std.proofs.Common.{◌≡◌, ℕ, ◌+◌, ◌-◌, ℤ, List, [], ◌++◌, length, Option, Some, refl, sym, ap, ◌∙◌, subst}
 use Rattle.std.specs.Prelude.{slice_get, slice_set, unwrap_or}
 use Rattle.gimple_ir.specs.Values.{IsValue, unary_of, binary_of, convert_of, TypesFit}
 use Rattle.gimple_ir.proofs.WellFormed.{reduced-InRange, unary_of-IsValue, binary_of-IsValue}
-use Rattle.gimple_ir.specs.Programs.{IsOperand}
 use Rattle.gimple_ir.specs.Statements.{binary_fits}
 use Rattle.gimple_ir.specs.declared.types.ScalarType.{ScalarType}
 use Rattle.gimple_ir.specs.declared.types.ScalarType.TheVariants.{Int}
@@ -11,11 +10,10 @@ use Rattle.gimple_ir.specs.declared.types.UnaryOp.{UnaryOp}
 use Rattle.gimple_ir.specs.declared.types.BinaryOp.{BinaryOp}
 use Rattle.gimple_ir.specs.declared.types.Operand.{Operand}
 use Rattle.gimple_ir.specs.declared.types.Value.{Value}
-use Rattle.gimple_ir.specs.declared.versioned.Step.{Step}
 use Rattle.gimple_ir.specs.declared.versioned.Step.TheVariants.{Unary, Convert, Binary}
 use Rattle.gimple_ir.specs.declared.versioned.VersionedFunction.{VersionedFunction}
 use Rattle.gimple_meaning.specs.Acts.{needing, sets, value_at, operation_of}
-use Rattle.gimple_meaning.specs.Systems.{Frame, Machine, moved, store_of}
+use Rattle.gimple_meaning.specs.Systems.{Frame, moved, store_of}
 use Rattle.rv64_isa.specs.declared.instr.Instr.{Instr}
 use Rattle.rv64_meaning.specs.Machine.{Segments, State}
 use Rattle.rv64_frame.specs.Frames.{frame_of}
@@ -27,15 +25,15 @@ use Rattle.follow_laws.specs.Relation.{ComesTo}
 use Rattle.follow_laws.specs.Effects.{Differ}
 use Rattle.follow_laws.specs.Frames.{form_of}
 use Rattle.follow_laws.proofs.WayLaws.{reach_on}
-use Rattle.machine_laws.specs.Linked.{LinkedProgram, linked_code, linked_system}
+use Rattle.machine_laws.specs.Linked.{LinkedProgram, linked_system}
 use Rattle.machine_laws.specs.Typed.{ProgramTyped}
 use Rattle.machine_laws.specs.Layouts.{Layout, IsPlaced, places_in, place_address}
 use Rattle.machine_laws.specs.Relation.{Holds, AtFrame}
-use Rattle.machine_laws.proofs.Lists.{all_at}
+use Rattle.machine_laws.proofs.Lists.{all_at, some_same}
 use Rattle.machine_laws.proofs.Operands.{AreBits, FitsComponent, operand_typed, holds_on, value_got, value_set}
 use Rattle.machine_laws.proofs.Words.{Stretch, front_stands, behind, plain_stands, plain_ends, reaches_here, lead_on, come_on}
 use Rattle.machine_laws.proofs.Answering.{RowAt, works, needing_answers}
-use Rattle.machine_laws.proofs.Computing.{Computed, Computes}
+use Rattle.machine_laws.proofs.Computing.{Computes}
 use Rattle.machine_laws.proofs.Types.{if_some, unary_type, binary_type, given_type, Fit, fit_of, operation_is}
 use Rattle.machine_laws.proofs.PlainRows.{stretch, arrived}
 
@@ -44,9 +42,6 @@ pub record ResultOf (code : List Instr) (a b : ℕ) (type : ScalarType) (r : Val
   pub computes : Computes code a b (form_of r)
   pub type_is : r.ty ≡ type
   pub number : IsValue r
-
-some_value : (u v : Value) → Some u ≡ Some v → v ≡ u
-some_value u v e = cc
 
 module _ (m : Segments) (l : Layout) (p : LinkedProgram) (w : IsPlaced m l p) (typed : ProgramTyped p) (frame : Frame) (older : List Frame) (arrays : List (List ℤ)) (input output : List ℕ) (f : VersionedFunction) where
   -- a register into the component of a step, which is then done
@@ -72,8 +67,8 @@ module _ (m : Segments) (l : Layout) (p : LinkedProgram) (w : IsPlaced m l p) (t
       come_on m u _ _ (result.computes m u t0 t1 (front_stands m places u.pc end code set items))
       (λ t k.
       let held = holds_on m l p w frame.function f older arrays input output cells u t h (k.others 2 refl) k.mem k.input k.output in
-      let is : AreBits (Some r) (t.reg 5) = λ v e. k.value ∙ ap form_of (sym (some_value r v e)) in
-      let fits : FitsComponent f to (Some r) = λ v e. let same = sym (some_value r v e) in (ap (λ (x : Value). x.ty) (sym same) ∙ result.type_is, subst IsValue same result.number) in
+      let is : AreBits (Some r) (t.reg 5) = λ v e. k.value ∙ ap form_of (some_same r v e) in
+      let fits : FitsComponent f to (Some r) = λ v e. let same = some_same r v e in (ap (λ (x : Value). x.ty) (sym same) ∙ result.type_is, subst IsValue same result.number) in
       assigns cells t to 5 (Some r) held inside is fits refl refl (behind m places u.pc end t.pc code set items k.place))
 
   -- of one operand
@@ -203,7 +198,7 @@ module _ (m : Segments) (l : Layout) (p : LinkedProgram) (w : IsPlaced m l p) (t
       let kind_y = operand_typed f cells y u a.holds.newest.typed eu types.1 in
       let type = type_of_component f to in
       let fit : Fit op type v u = fit_of op type v u
-          (ap (λ (ty : ScalarType). binary_fits op (Some type) (Some ty) (Some u.ty)) kind_x.0 ∙ ap (λ (ty : ScalarType). binary_fits op (Some type) (Some (type_of f x)) (Some ty)) kind_y.0 ∙ types.2) in
+      (ap (λ (ty : ScalarType). binary_fits op (Some type) (Some ty) (Some u.ty)) kind_x.0 ∙ ap (λ (ty : ScalarType). binary_fits op (Some type) (Some (type_of f x)) (Some ty)) kind_y.0 ∙ types.2) in
       let made = operation_is op v u r er in
       let code = operation op (type_of f x) in
       let result : ResultOf code (form_of v) (form_of u) type r = record {

@@ -1,5 +1,5 @@
 -- The words of items, one part after the other, and ways along them.
-use Rattle.std.proofs.Common.{◌≡◌, ℕ, suc, ◌+◌, ◌*◌, pos, ◌-ℤ◌, List, [], ◌∷◌, ◌++◌, length, Some, refl, sym, ap, ◌∙◌, subst, arith, length-append, append_assoc}
+use Rattle.std.proofs.Common.{◌≡◌, ℕ, suc, ◌+◌, ◌*◌, pos, ◌-ℤ◌, List, ◌∷◌, ◌++◌, length, Some, sym, ap, subst, arith, length-append, append_assoc}
 use Rattle.rv64_isa.specs.declared.instr.Instr.{Instr}
 use Rattle.rv64_isa.specs.declared.instr.Instr.TheVariants.{Jal}
 use Rattle.rv64_meaning.specs.Machine.{Segments, State, fetch}
@@ -10,7 +10,7 @@ use Rattle.rv64_select.specs.declared.item.Item.TheVariants as item
 use Rattle.rv64_select.specs.Assembly.{plain}
 use Rattle.rv64_select.specs.Code.{words_in, Places, resolved, direct}
 use Rattle.rv64_select.proofs.Laying.{laid-append, length-direct, direct-plain, direct-front}
-use Rattle.follow_laws.specs.Relation.{StandsAt, Comes, Leads, ComesTo}
+use Rattle.follow_laws.specs.Relation.{StandsAt, Comes, ComesTo}
 use Rattle.follow_laws.proofs.WayLaws.{comes_on, comes_here, leads_on, comes_to_lead, stands_front, stands_back}
 
 -- the code of these items stands from an address up to an end
@@ -74,6 +74,10 @@ behind_items m places at end xs ys h =
       stands = subst (λ n. StandsAt m n back) there (stands_back m at front back (subst (StandsAt m at) parts h.stands));
       ends = omega (arith, h.ends, ap length parts, length-append front back, len);
     }
+
+-- no words are left before an end
+pub ended : (at end : ℕ) → end ≡ at + 4 * 0 → at ≡ end
+ended at end h = omega (arith, h)
 
 -- ---- ways
 

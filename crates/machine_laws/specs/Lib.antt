@@ -3,3 +3,4 @@ pub mod Typed
 pub mod Layouts
 pub mod Relation
 pub mod Rows
+pub mod Starts

@@ -1,6 +1,6 @@
 -- A whole program as the back end has it: versions of functions in which arrays and calls go by symbols, and what each symbol
 -- names. As a system it is that of its steps, with numbers for the symbols.
-use Rattle.std.specs.Prelude.{ℕ, ◌-◌, Bool, List, [], ◌∷◌, length, map, slice_get, Option, Some, None}
+use Rattle.std.specs.Prelude.{ℕ, ◌-◌, Bool, List, [], ◌∷◌, length, map, slice_get, Option, None}
 use Rattle.std.specs.Option.{option_map_or, option_and_then}
 use Rattle.gimple_ir.specs.declared.types.Array.{Array}
 use Rattle.gimple_ir.specs.declared.types.ScalarType.{ScalarType}

@@ -3,7 +3,7 @@
 -- newest first, each with its function's frame size and with the return address of its call; that of the first is in the start
 -- stub. The slot of each component that is set has the value's machine form. The data segment has the arrays. The input that is
 -- left and the output are equal.
-use Rattle.std.specs.Prelude.{◌≡◌, ◌<◌, ◌≤◌, ◌+◌, ◌*◌, ◌^◌, ℕ, suc, ℤ, pos, true, List, [], ◌∷◌, length, slice_get, Option, Some, None}
+use Rattle.std.specs.Prelude.{◌≡◌, ◌<◌, ◌≤◌, ◌+◌, ◌*◌, ◌^◌, ℕ, suc, ℤ, pos, true, List, [], ◌∷◌, length, slice_get, Option, Some}
 use Rattle.gimple_ir.specs.Programs.{IsElement}
 use Rattle.gimple_ir.specs.declared.types.Array.{Array}
 use Rattle.gimple_ir.specs.declared.types.ElementType.{ElementType}

@@ -1,6 +1,6 @@
 -- A well formed program of versions: its numbers name what is there, each label stands once, and what is read, stored, passed and
 -- given has the type that its place asks for, as the checks of the source language and the rules on versions have it.
-use Rattle.std.specs.Prelude.{◌≡◌, ◌≢◌, ◌<◌, ◌≤◌, ℕ, Bool, true, List, [], ◌∷◌, length, slice_get, All, Option, Some, None, IsSomeAnd}
+use Rattle.std.specs.Prelude.{◌≡◌, ◌≢◌, ◌<◌, ◌≤◌, ℕ, true, List, length, slice_get, All, Option, Some, None, IsSomeAnd}
 use Rattle.gimple_ir.specs.Values.{IsValue}
 use Rattle.gimple_ir.specs.Programs.{IsOperand}
 use Rattle.gimple_ir.specs.Statements.{is_comparison, binary_fits, read_type}

@@ -29,6 +29,7 @@ use Rattle.rv64_meaning.specs.Machine.{Segments, State, load}
 use Rattle.rv64_meaning.specs.Loading.{memory_of, segments_of, start_of}
 use Rattle.rv64_meaning.specs.Loading as loading
 use Rattle.rv64_meaning.proofs.ByteLaws.{memory_data}
+use Rattle.final_link.specs.Stubs.{start_address, start_stub}
 use Rattle.final_link.specs.Image.{round_up}
 use Rattle.final_link.specs.Names.{value_of}
 use Rattle.final_link.specs.Arrays.{element_size, element_bytes, array_size, array_bytes, size_of, bytes_of, stored_arrays, zeroed_arrays}
@@ -38,17 +39,18 @@ use Rattle.final_link.proofs.ArrayLaws.{end_from}
 use Rattle.follow_laws.specs.Direct.{direct_symbols, direct_image}
 use Rattle.follow_laws.specs.Follows.{AreBytes}
 use Rattle.follow_laws.specs.Frames.{form_of}
-use Rattle.follow_laws.specs.Relation.{ComesTo}
+use Rattle.follow_laws.specs.Relation.{StandsAt, ComesTo}
 use Rattle.follow_laws.proofs.StubLaws.{start_calls}
 use Rattle.follow_laws.proofs.WayLaws.{leads_twice}
 use Rattle.machine_laws.specs.Linked.{LinkedProgram, linked_code, linked_system}
 use Rattle.machine_laws.specs.Typed.{ProgramTyped}
 use Rattle.machine_laws.specs.Layouts.{Layout, first_return}
 use Rattle.machine_laws.specs.Relation.{ElementHeld, ArraysHeld, AtFrame, Related}
+use Rattle.machine_laws.specs.Starts.{AtStart}
 use Rattle.machine_laws.proofs.CallRows.{Ready, BindingFits, entry_run}
 use Rattle.image_laws.specs.Images.{Parts, start_in, segments_in, data_in, top_in}
 use Rattle.image_laws.specs.Direct.{linked_of, layout_of, IsDirect}
-use Rattle.image_laws.specs.Start.{StartHasArrays, first_of, StartRelates}
+use Rattle.image_laws.specs.Start.{StartHasArrays, first_of, StartIsAtStart, StartRelates}
 use Rattle.image_laws.proofs.Lists.{none_there, all_at, mapped_at, at_mapped}
 use Rattle.image_laws.proofs.LoadLaws.{parts_have_data}
 use Rattle.image_laws.proofs.ArrayLaws.{length-element, length-elements, length-bytes, size_at}
@@ -240,6 +242,23 @@ module _ (plan : Plan) (merged : Merged) (functions : List VersionedFunction) (r
         leads = leads_twice m s u e.state c.leads e.leads;
         holds = subst (λ (cells : List (Option Value)). AtFrame l p (fresh p.main cells) [] (first_arrays p.arrays) input [] e.state) same e.holds;
       }
+
+pub start_is_at_start : StartIsAtStart
+start_is_at_start plan merged functions results input h bytes =
+    let p = linked_of plan merged functions results in
+    let m = segments_in (parts plan merged functions) in
+    let main = main_stands plan merged functions results h in
+    let image = direct_image plan merged functions in
+    subst (λ m. AtStart m (layout_of plan merged functions) p input (start_of image input)) (sym (segments_are plan merged functions h)) (record {
+      main = main.function;
+      known = main.known;
+      stub = subst (λ n. StandsAt m start_address (start_stub (top_in (parts plan merged functions)) n)) main.address (start_stands plan merged functions h);
+      place = refl;
+      arrays = start_arrays plan merged functions results h input;
+      input_left = refl;
+      input_bytes = bytes;
+      written = refl;
+    })
 
 pub start_has_arrays : StartHasArrays
 start_has_arrays plan merged functions results input h = start_arrays plan merged functions results h input

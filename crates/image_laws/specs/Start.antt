@@ -13,6 +13,7 @@ use Rattle.follow_laws.specs.Relation.{ComesTo}
 use Rattle.machine_laws.specs.Linked.{LinkedProgram, linked_system}
 use Rattle.machine_laws.specs.Typed.{ProgramTyped}
 use Rattle.machine_laws.specs.Relation.{ArraysHeld, Related}
+use Rattle.machine_laws.specs.Starts.{AtStart}
 use Rattle.image_laws.specs.Direct.{linked_of, layout_of, IsDirect}
 
 abbrev pub StartHasArrays : Type 0
@@ -23,6 +24,12 @@ StartHasArrays =
 -- the first state of a program's run (`start_in`) is going on with this
 abbrev pub first_of : LinkedProgram → List ℕ → Machine
 first_of p input = record { arrays = first_arrays p.arrays; frames = fresh p.main (unwrap_or ((linked_system p).enters p.main []) []) ∷ []; input = input; output = [] }
+
+-- what the law of the machine asks of a state at the start of a run
+abbrev pub StartIsAtStart : Type 0
+StartIsAtStart =
+    (plan : Plan) (merged : Merged) (functions : List VersionedFunction) (results : ℕ → ScalarType) (input : List ℕ) → IsDirect plan merged functions → AreBytes input
+    → AtStart (segments_of (direct_image plan merged functions)) (layout_of plan merged functions) (linked_of plan merged functions results) input (start_of (direct_image plan merged functions) input)
 
 abbrev pub StartRelates : Type 0
 StartRelates =

@@ -6,7 +6,7 @@
 
 ghost use Rattle.image_laws.specs.Images.{PartsLoad, PartsHaveSegments, PartsHaveData, PartsHaveCode};
 ghost use Rattle.image_laws.specs.Direct.{DirectLoads, DirectIsPlaced};
-ghost use Rattle.image_laws.specs.Start.{StartHasArrays, StartRelates};
+ghost use Rattle.image_laws.specs.Start.{StartHasArrays, StartIsAtStart, StartRelates};
 
 /// What the machine finds in an image that is built of code and arrays.
 pub fn images()
@@ -25,5 +25,6 @@ pub fn direct_images()
 /// What the machine has at the start of a plan's image, and that it comes to the first statement of `main`.
 pub fn starts()
     ensures arrays { StartHasArrays }
+    ensures at_start { StartIsAtStart }
     ensures related { StartRelates }
 {}

@@ -1,0 +1,13 @@
+pub mod Together
+pub mod Passing
+pub mod Numbered
+pub mod Symbols
+pub mod Named
+pub mod Bodies
+pub mod Uses
+pub mod Acting
+pub mod Running
+pub mod Typing
+pub mod Labelled
+pub mod Stepping
+pub mod Typed

@@ -59,7 +59,7 @@ pub fn plain<F: FileStore, K: Sink>(
     ensures complete { ForSome (F.held files.old) (λ held. IsValid FILE_BYTES held (command_of (words_of words.now))
         → ¬ Rose (F.faults files.old) (F.faults files.new) → ¬ Rose (K.known out.old).faults (K.known out.new).faults → (result ≡ 0) ⊎ (result ≡ 7)) }
 
-    // An image of a module of the first form can be loaded and does, on every input, what the program does.
+    // An image that was compiled can be loaded and does, on every input, what the program of its text does.
     ensures follows { result ≡ 0 → WhereTold (F.held files.old) (F.held files.new) (Faithful (command_of (words_of words.now))) }
 
     // What the files hold then. Where the sink fails at the text of a command that was done, its files are written.
@@ -105,7 +105,7 @@ pub fn whopr<F: FileStore, K: Sink>(
     ensures complete { ForSome (F.held files.old) (λ held. IsValid FILE_BYTES held (command_of (words_of words.now))
         → ¬ Rose (F.faults files.old) (F.faults files.new) → ¬ Rose (K.known out.old).faults (K.known out.new).faults → (result ≡ 0) ⊎ (result ≡ 7)) }
 
-    // An image of a module of the first form can be loaded and does, on every input, what the program does.
+    // An image that was compiled can be loaded and does, on every input, what the program of its text does.
     ensures follows { result ≡ 0 → WhereTold (F.held files.old) (F.held files.new) (Faithful (command_of (words_of words.now))) }
 
     // What the files hold then. Where the sink fails at the text of a command that was done, its files are written.

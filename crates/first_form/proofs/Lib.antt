@@ -1,6 +1,0 @@
-pub mod TemplateLaws
-pub mod MachineLaws
-pub mod FollowLaws
-pub mod WellFormedLaws
-pub mod LinkLaws
-mod WorkedRows

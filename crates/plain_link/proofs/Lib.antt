@@ -15,3 +15,4 @@ pub mod Made
 pub mod DirectLaws
 pub mod PlanLaws
 pub mod SymbolLaws
+pub mod PlaceLaws

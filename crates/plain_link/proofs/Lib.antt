@@ -15,4 +15,5 @@ pub mod Made
 pub mod DirectLaws
 pub mod PlanLaws
 pub mod SymbolLaws
+pub mod KnownLaws
 pub mod PlaceLaws

@@ -35,17 +35,18 @@ use Rattle.final_link.specs.Names.{of_name}
 use Rattle.final_link.specs.Arrays.{is_zeroed, size_of, array_symbol, stored_arrays, zeroed_arrays}
 use Rattle.final_link.specs.Members.{HasFrame, members_from, member_words, version_size, frame_size}
 use Rattle.final_link.specs.Symbols.{end_of, code_end, places_of, version_symbols, arrays_in_order, array_symbols, symbols_of}
-use Rattle.final_link.specs.Placing.{IsPlaceable, IsKnown, names_of}
+use Rattle.final_link.specs.Placing.{IsPlaceable, names_of}
 use Rattle.follow_laws.specs.Direct.{code_size}
 use Rattle.plain_link.specs.Known.{IsPart}
 use Rattle.plain_link.specs.Numbers.{is_body, is_storage, symbol_by, bodies_of, storage_of}
 use Rattle.plain_link.specs.Lowering.{all_of, version_of, versions_of, plan_of, merged_array, merged_of, member_of, functions_of}
 use Rattle.plain_link.specs.Objects.{object_of}
-use Rattle.plain_link.specs.Linking.{main_of, limits_of, first_passed, code_sum}
+use Rattle.plain_link.specs.Linking.{is_open, main_of, limits_of, first_passed, code_sum}
 use Rattle.plain_link.proofs.Facts.{facts}
 use Rattle.plain_link.proofs.Fitting.{version_fits, version_bound}
 use Rattle.plain_link.proofs.PartFrame.{has_frame, frame_is}
 use Rattle.plain_link.proofs.PlanLaws.{main_stands, numbers_below, numbers_ascend, arrays_defined, size_is, Within, limits_kept, same_symbols}
+use Rattle.plain_link.proofs.KnownLaws.{names_known}
 use Rattle.plain_link.proofs.DirectLaws.{entries_from, entry_at, members_are, words_same, all_stand, ends_same}
 use Rattle.plain_link.proofs.SymbolLaws.{Apart, apart_once, apart_append, functions_differ, arrays_differ, kinds_differ, stubs_differ, putchar_no_function, getchar_no_function, putchar_no_array, getchar_no_array}
 
@@ -407,10 +408,9 @@ text_short m checked within objects =
 
 -- ---- what can be placed
 
-pub placeable : (m : Module) (main : ℕ) → IsChecked m → main_of m ≡ Some main → first_passed (limits_of m) ≡ None → All IsPart (map object_of (functions_of m))
-    → All (λ o. All (IsKnown (names_of (plan_of m) (merged_of m main) (map object_of (functions_of m)))) o.symbols) (map object_of (functions_of m))
+pub placeable : (m : Module) (main : ℕ) → IsChecked m → is_open m ≡ false → main_of m ≡ Some main → first_passed (limits_of m) ≡ None → All IsPart (map object_of (functions_of m))
     → IsPlaceable (plan_of m) (merged_of m main) (map object_of (functions_of m))
-placeable m main checked is within parts known =
+placeable m main checked closed is within parts =
     let os = map object_of (functions_of m) in
     let members = members_from 0 os in
     let limits = limits_kept m within in
@@ -427,7 +427,7 @@ placeable m main checked is within parts known =
       fits = All-weaker IsPart ObjectFits (λ (o : RelocObject) (h : IsPart o). h.fits) os parts;
       once = All-from_recursion (λ (v : Version). count_named v.symbol members ≡ 1) (versions_of m) (all_once m checked);
       frames = All-from_recursion (λ (e : List ℕ × Member). HasFrame (member_words os e.1)) members (all_framed m checked);
-      known = known;
+      known = names_known m main checked closed;
       text = text_short m checked limits.code (recursion_from_All IsObject os objects);
       size = omega (arith, size_is m main, limits.arrays);
     }

@@ -17,3 +17,4 @@ pub mod PlanLaws
 pub mod SymbolLaws
 pub mod KnownLaws
 pub mod PlaceLaws
+pub mod LinkLaws

@@ -35,7 +35,7 @@ use Rattle.final_link.specs.Names.{of_name}
 use Rattle.final_link.specs.Arrays.{is_zeroed, size_of, array_symbol, stored_arrays, zeroed_arrays}
 use Rattle.final_link.specs.Members.{HasFrame, members_from, member_words, version_size, frame_size}
 use Rattle.final_link.specs.Symbols.{end_of, code_end, places_of, version_symbols, arrays_in_order, array_symbols, symbols_of}
-use Rattle.final_link.specs.Placing.{IsPlaceable, names_of}
+use Rattle.final_link.specs.Placing.{IsPlaceable, names_of, placed_image}
 use Rattle.follow_laws.specs.Direct.{code_size}
 use Rattle.plain_link.specs.Known.{IsPart}
 use Rattle.plain_link.specs.Numbers.{is_body, is_storage, symbol_by, bodies_of, storage_of}
@@ -122,16 +122,16 @@ passing p [] = tt
 passing p (x ∷ xs) = passing_by p (p x) x (filter p xs) refl (passing p xs)
 
 clash : (b : Bool) → not b ≡ true → b ≡ true → ⊥
-clash true no yes = cc
-clash false no yes = cc
+clash true missed yes = cc
+clash false missed yes = cc
 
 other_kind : (p : ℕ → Bool) (n : ℕ) (ks : List ℕ) → not (p n) ≡ true → AllByRecursion (λ k. p k ≡ true) ks → AllByRecursion (λ k. n ≡ k → ⊥) ks
-other_kind p n [] no yes = tt
-other_kind p n (k ∷ ks) no yes = (λ e. clash (p n) no (ap p e ∙ yes.0), other_kind p n ks no yes.1)
+other_kind p n [] missed yes = tt
+other_kind p n (k ∷ ks) missed yes = (λ e. clash (p n) missed (ap p e ∙ yes.0), other_kind p n ks missed yes.1)
 
 other_kinds : (p : ℕ → Bool) (ns ks : List ℕ) → AllByRecursion (λ n. not (p n) ≡ true) ns → AllByRecursion (λ k. p k ≡ true) ks → AllByRecursion (λ n. AllByRecursion (λ k. n ≡ k → ⊥) ks) ns
-other_kinds p [] ks no yes = tt
-other_kinds p (n ∷ ns) ks no yes = (other_kind p n ks no.0 yes, other_kinds p ns ks no.1 yes)
+other_kinds p [] ks missed yes = tt
+other_kinds p (n ∷ ns) ks missed yes = (other_kind p n ks missed.0 yes, other_kinds p ns ks missed.1 yes)
 
 parted_different : (p : ℕ → Bool) (ns : List ℕ) → Different ns → Different (filter (λ n. not (p n)) ns ++ filter p ns)
 parted_different p ns h =
@@ -431,3 +431,21 @@ placeable m main checked closed is within parts =
       text = text_short m checked limits.code (recursion_from_All IsObject os objects);
       size = omega (arith, size_is m main, limits.arrays);
     }
+
+-- ---- what stands in variables
+
+pub count_is : (m : Module) (main : ℕ) (merged : Merged) (count : ℕ) → merged ≡ merged_of m main → count ≡ length merged.arrays → count ≡ length (storage_of m)
+count_is m main merged count e long = long ∙ ap (λ (x : Merged). length x.arrays) e ∙ length-map (storage_of m) (λ (e : ℕ × Array). merged_array e.0 e.1)
+
+pub plan_is : (m : Module) (versions : List Version) (arrays : List ℕ) (count : ℕ) (plan : Plan) → plan ≡ record { versions = versions; arrays = arrays; code = 1 }
+    → versions ≡ versions_of m → arrays ≡ all_of count → count ≡ length (storage_of m) → plan ≡ plan_of m
+plan_is m versions arrays count plan is e f long =
+    is ∙ ap₂ (λ (vs : List Version) (ns : List ℕ). let made : Plan = record { versions = vs; arrays = ns; code = 1 } in made) e (f ∙ ap all_of long)
+
+pub same_placeable : (p q : Plan) (a b : Merged) (os ps : List RelocObject) → p ≡ q → a ≡ b → os ≡ ps → IsPlaceable q b ps → IsPlaceable p a os
+same_placeable p q a b os ps e f g h =
+    subst (λ (x : Plan). IsPlaceable x a os) (sym e) (subst (λ (x : Merged). IsPlaceable q x os) (sym f) (subst (λ (x : List RelocObject). IsPlaceable q b x) (sym g) h))
+
+pub same_image : (p q : Plan) (a b : Merged) (os ps : List RelocObject) → p ≡ q → a ≡ b → os ≡ ps → placed_image p a os ≡ placed_image q b ps
+same_image p q a b os ps e f g =
+    ap (λ (x : Plan). placed_image x a os) e ∙ ap (λ (x : Merged). placed_image q x os) f ∙ ap (λ (x : List RelocObject). placed_image q b x) g

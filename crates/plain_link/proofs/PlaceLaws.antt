@@ -122,16 +122,16 @@ passing p [] = tt
 passing p (x ∷ xs) = passing_by p (p x) x (filter p xs) refl (passing p xs)
 
 clash : (b : Bool) → not b ≡ true → b ≡ true → ⊥
-clash true missed yes = cc
-clash false missed yes = cc
+clash true missed met = cc
+clash false missed met = cc
 
 other_kind : (p : ℕ → Bool) (n : ℕ) (ks : List ℕ) → not (p n) ≡ true → AllByRecursion (λ k. p k ≡ true) ks → AllByRecursion (λ k. n ≡ k → ⊥) ks
-other_kind p n [] missed yes = tt
-other_kind p n (k ∷ ks) missed yes = (λ e. clash (p n) missed (ap p e ∙ yes.0), other_kind p n ks missed yes.1)
+other_kind p n [] missed met = tt
+other_kind p n (k ∷ ks) missed met = (λ e. clash (p n) missed (ap p e ∙ met.0), other_kind p n ks missed met.1)
 
 other_kinds : (p : ℕ → Bool) (ns ks : List ℕ) → AllByRecursion (λ n. not (p n) ≡ true) ns → AllByRecursion (λ k. p k ≡ true) ks → AllByRecursion (λ n. AllByRecursion (λ k. n ≡ k → ⊥) ks) ns
-other_kinds p [] ks missed yes = tt
-other_kinds p (n ∷ ns) ks missed yes = (other_kind p n ks missed.0 yes, other_kinds p ns ks missed.1 yes)
+other_kinds p [] ks missed met = tt
+other_kinds p (n ∷ ns) ks missed met = (other_kind p n ks missed.0 met, other_kinds p ns ks missed.1 met)
 
 parted_different : (p : ℕ → Bool) (ns : List ℕ) → Different ns → Different (filter (λ n. not (p n)) ns ++ filter p ns)
 parted_different p ns h =

@@ -337,7 +337,7 @@ unfolding Apart
 once_in part [] apart = tt
 once_in part (f ∷ fs) apart = (
   once_here (bytes_eq f.symbol f.symbol) (entry_at part f) (filter (λ (e : List ℕ × Member). bytes_eq f.symbol e.0) (entries_from (part + 1) fs)) ((bytes_eq-Decides f.symbol f.symbol).1 refl)
-  (none_named f.symbol (part + 1) fs apart.0),
+      (none_named f.symbol (part + 1) fs apart.0),
   later_once part f (entries_from (part + 1) fs) (map (λ (g : VersionedFunction). g.symbol) fs) apart.0 (once_in (part + 1) fs apart.1),
 )
 

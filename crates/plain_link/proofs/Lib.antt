@@ -16,3 +16,5 @@ pub mod DirectLaws
 pub mod PlanLaws
 pub mod SymbolLaws
 pub mod KnownLaws
+pub mod PlaceLaws
+pub mod LinkLaws

@@ -1,0 +1,6 @@
+pub mod Linked
+pub mod Typed
+pub mod Layouts
+pub mod Relation
+pub mod Rows
+pub mod Starts

@@ -1,0 +1,35 @@
+-- The start of an image's run, and that it follows its program.
+use Rattle.std.specs.Prelude.{◌≡◌, ℕ, List, [], slice_get, Some}
+use Rattle.gimple_ir.specs.declared.versioned.VersionedFunction.{VersionedFunction}
+use Rattle.gimple_meaning.specs.Systems.{first_arrays, start_in}
+use Rattle.gimple_meaning.specs.Systems as program
+use Rattle.gimple_meaning.specs.Run.{run}
+use Rattle.rv64_meaning.specs.Machine.{Segments, State, exec}
+use Rattle.final_link.specs.Stubs.{start_address, start_stub}
+use Rattle.follow_laws.specs.Follows.{AreBytes, RunFollows}
+use Rattle.follow_laws.specs.Relation.{StandsAt}
+use Rattle.machine_laws.specs.Linked.{LinkedProgram, linked_system}
+use Rattle.machine_laws.specs.Typed.{ProgramTyped}
+use Rattle.machine_laws.specs.Layouts.{Layout, IsPlaced, top}
+use Rattle.machine_laws.specs.Relation.{ArraysHeld}
+
+-- the machine is at the start stub, with the arrays' first numbers and an input, and has written nothing
+pub record AtStart (m : Segments) (l : Layout) (p : LinkedProgram) (input : List ℕ) (s : State) : Type 0 where
+  pub main : VersionedFunction
+  pub known : slice_get p.functions p.main ≡ Some main
+  pub stub : StandsAt m start_address (start_stub (top l) (l.address main.symbol))
+  pub place : s.pc ≡ start_address
+  pub arrays : ArraysHeld l p s.mem (first_arrays p.arrays)
+  pub input_left : s.input ≡ input
+  pub input_bytes : AreBytes input
+  pub written : s.output ≡ []
+
+-- the run of a program on an input, by the number of steps
+abbrev pub linked_run : LinkedProgram → List ℕ → ℕ → program.State
+linked_run p input n = run (linked_system p) (start_in (linked_system p) p.arrays p.main input) n
+
+-- from its start the machine follows the program
+abbrev pub MachineFollows : Type 0
+MachineFollows =
+    (m : Segments) (l : Layout) (p : LinkedProgram) → IsPlaced m l p → ProgramTyped p → (input : List ℕ) (s : State) → AtStart m l p input s
+    → RunFollows (λ k. exec m k s) (linked_run p input)

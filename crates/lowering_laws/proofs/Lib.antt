@@ -1,0 +1,9 @@
+pub mod Together
+pub mod Passing
+pub mod Numbered
+pub mod Symbols
+pub mod Named
+pub mod Bodies
+pub mod Uses
+pub mod Acting
+pub mod Running

@@ -1,0 +1,5 @@
+pub mod States
+pub mod Whole
+pub mod Programs
+pub mod Linked
+pub mod Laws

@@ -1,7 +1,4 @@
 -- The rows of all forms of a step.
-use Rattle.std.proofs.Common.{◌≡◌, true}
-use Rattle.gimple_ir.specs.Statements.{is_comparison}
-use Rattle.gimple_ir.specs.declared.types.BinaryOp.{BinaryOp}
 use Rattle.gimple_ir.specs.declared.types.UnaryOp.{UnaryOp}
 use Rattle.gimple_ir.specs.declared.types.UnaryOp.TheVariants as unary
 use Rattle.gimple_ir.specs.declared.versioned.Step.TheVariants.{Nop, Label, Goto, Cond, Switch, Return, Copies, Unary, Convert, Binary, Load, Store, Call, Putchar, Getchar, Exit}
@@ -9,8 +6,10 @@ use Rattle.machine_laws.specs.Rows.{NopRow, LabelRow, GotoRow, CopiesRow, UnaryR
 use Rattle.machine_laws.specs.Starts.{MachineFollows}
 use Rattle.machine_laws.proofs.Answering.{row}
 use Rattle.machine_laws.proofs.PlainRows.{nop_at, label_at, goto_at, copies_at}
-use Rattle.machine_laws.proofs.ValueRows.{UnaryComputes, BinaryComputes, unary_at, convert_at, binary_at}
-use Rattle.machine_laws.proofs.TestRows.{ComparisonBranches, cond_at, switch_at}
+use Rattle.machine_laws.proofs.ValueRows.{UnaryComputes, unary_at, convert_at, binary_at}
+use Rattle.machine_laws.proofs.TestRows.{cond_at, switch_at}
+use Rattle.machine_laws.proofs.NumbersComputed.{binary_computes}
+use Rattle.machine_laws.proofs.NumbersBranches.{comparison_branches}
 use Rattle.machine_laws.proofs.ArrayRows.{load_at, store_at}
 use Rattle.machine_laws.proofs.BuiltinRows.{putchar_at, getchar_at, exit_at}
 use Rattle.machine_laws.proofs.ReturnRows.{return_at}
@@ -40,12 +39,11 @@ unary_row to op x m l p w typed q s = row m l p (Unary to op x) (unary_at m l p 
 pub convert_row : ConvertRow
 convert_row to x m l p w typed q s = row m l p (Convert to x) (convert_at m l p w typed to x convert_computes) q s
 
--- a binary operation and a condition, once each operator is known to compute
-pub binary_row : ((op : BinaryOp) → BinaryComputes op) → BinaryRow
-binary_row computes to op x y m l p w typed q s = row m l p (Binary to op x y) (binary_at m l p w typed to op x y (computes op)) q s
+pub binary_row : BinaryRow
+binary_row to op x y m l p w typed q s = row m l p (Binary to op x y) (binary_at m l p w typed to op x y (binary_computes op)) q s
 
-pub cond_row : ((op : BinaryOp) → is_comparison op ≡ true → ComparisonBranches op) → CondRow
-cond_row branches op x y met missed m l p w typed q s = row m l p (Cond op x y met missed) (cond_at m l p w typed op x y met missed (branches op)) q s
+pub cond_row : CondRow
+cond_row op x y met missed m l p w typed q s = row m l p (Cond op x y met missed) (cond_at m l p w typed op x y met missed (comparison_branches op)) q s
 
 pub switch_row : SwitchRow
 switch_row on cases otherwise m l p w typed q s = row m l p (Switch on cases otherwise) (switch_at m l p w typed on cases otherwise same_forms) q s
@@ -71,23 +69,23 @@ load_row to array index m l p w typed q s = row m l p (Load to array index) (loa
 pub store_row : StoreRow
 store_row array index from m l p w typed q s = row m l p (Store array index from) (store_at m l p w typed array index from) q s
 
-all_rows : BinaryRow → CondRow → AllRows
-all_rows b c Nop = nop_row
-all_rows b c (Label x) = label_row x
-all_rows b c (Goto x) = goto_row x
-all_rows b c (Cond op x y met missed) = c op x y met missed
-all_rows b c (Switch on cases otherwise) = switch_row on cases otherwise
-all_rows b c (Return x) = return_row x
-all_rows b c (Copies x) = copies_row x
-all_rows b c (Unary to op x) = unary_row to op x
-all_rows b c (Convert to x) = convert_row to x
-all_rows b c (Binary to op x y) = b to op x y
-all_rows b c (Load to array x) = load_row to array x
-all_rows b c (Store array x y) = store_row array x y
-all_rows b c (Call to n args) = call_row to n args
-all_rows b c (Putchar x) = putchar_row x
-all_rows b c (Getchar x) = getchar_row x
-all_rows b c (Exit x) = exit_row x
+all_rows : AllRows
+all_rows Nop = nop_row
+all_rows (Label x) = label_row x
+all_rows (Goto x) = goto_row x
+all_rows (Cond op x y met missed) = cond_row op x y met missed
+all_rows (Switch on cases otherwise) = switch_row on cases otherwise
+all_rows (Return x) = return_row x
+all_rows (Copies x) = copies_row x
+all_rows (Unary to op x) = unary_row to op x
+all_rows (Convert to x) = convert_row to x
+all_rows (Binary to op x y) = binary_row to op x y
+all_rows (Load to array x) = load_row to array x
+all_rows (Store array x y) = store_row array x y
+all_rows (Call to n args) = call_row to n args
+all_rows (Putchar x) = putchar_row x
+all_rows (Getchar x) = getchar_row x
+all_rows (Exit x) = exit_row x
 
-pub rows_joined : BinaryRow → CondRow → MachineFollows
-rows_joined b c m l p w typed input s a = start_follows m l p w typed (all_rows b c) input s a
+pub machine_follows : MachineFollows
+machine_follows m l p w typed input s a = start_follows m l p w typed all_rows input s a

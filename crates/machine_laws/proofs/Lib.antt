@@ -19,3 +19,10 @@ pub mod Elements
 pub mod ArrayRows
 pub mod Following
 pub mod AllRows
+pub mod Numbers
+pub mod NumbersTests
+pub mod NumbersShifts
+pub mod NumbersBits
+pub mod NumbersQuotients
+pub mod NumbersComputed
+pub mod NumbersBranches

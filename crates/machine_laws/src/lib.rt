@@ -16,14 +16,16 @@ pub fn plain_rows()
     ensures copies { CopiesRow }
 {}
 
-/// The rows of steps that compute a value of one operand.
+/// The rows of steps that compute a value.
 pub fn value_rows()
     ensures unary { UnaryRow }
     ensures convert { ConvertRow }
+    ensures binary { BinaryRow }
 {}
 
 /// The rows of steps that test a value and jump.
 pub fn test_rows()
+    ensures condition { CondRow }
     ensures switch { SwitchRow }
 {}
 
@@ -46,7 +48,7 @@ pub fn call_rows()
     ensures give { ReturnRow }
 {}
 
-/// The rows joined: from the start of its run the machine follows the program, once the rows of the other steps stand too.
-pub fn joined_rows()
-    ensures { BinaryRow → CondRow → MachineFollows }
+/// The machine law: from the start of its run the machine follows the program, on every input and for ever.
+pub fn machine_follows()
+    ensures { MachineFollows }
 {}

@@ -1,5 +1,5 @@
-use Rattle.machine_laws.proofs.AllRows.{switch_row}
+use Rattle.machine_laws.proofs.AllRows.{cond_row, switch_row}
 use Rattle.machine_laws.proofs.test_rows.Goals as goal
 
 pub returns : goal.returns
-returns c = record { switch = switch_row }
+returns c = record { condition = cond_row; switch = switch_row }

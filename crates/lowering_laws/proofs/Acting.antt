@@ -1,13 +1,13 @@
 -- The steps of a version act as the statements of its function do, and its frames begin alike.
-use Rattle.std.proofs.Common.{◌≡◌, ◌+◌, ◌-◌, ℕ, zero, suc, pos, List, [], ◌∷◌, ◌++◌, length, map, replicate, Bool, true, false, Some, None, refl, sym, ap, ap₂, ◌∙◌, subst, arith}
-use Rattle.std.specs.Prelude.{Option, if◌then◌else◌, slice_get, slice_set, filter, option_map, take}
-use Rattle.std.specs.List.{enumerate_from, range_with_len, flat_map}
+use Rattle.std.proofs.Common.{◌≡◌, ◌+◌, ◌-◌, ℕ, zero, suc, pos, List, [], ◌∷◌, ◌++◌, length, map, replicate, Bool, true, false, Some, None, refl, sym, ap, ap₂, ◌∙◌, subst}
+use Rattle.std.specs.Prelude.{Option, if◌then◌else◌, slice_get, slice_set, option_map}
+use Rattle.std.specs.List.{range_with_len, flat_map}
 use Rattle.std.specs.Ordering.{int_eq}
 use Rattle.std.proofs.lemmas.Option.{slice_get-map}
 use Rattle.std.proofs.lemmas.List.Concat.{length-flat_map}
 use Rattle.std.proofs.lemmas.List.Folds.{flat_map-map}
 use Rattle.std.proofs.lemmas.List.FromFn.{length-map-range_with_len}
-use Rattle.gimple_ir.specs.Values.{unary_of, convert_of, value_of}
+use Rattle.gimple_ir.specs.Values.{unary_of, convert_of}
 use Rattle.gimple_ir.specs.Statements.{component_types}
 use Rattle.gimple_ir.specs.CodeBound.{components_in, parameter_components}
 use Rattle.gimple_ir.specs.declared.types.ScalarType.{ScalarType}
@@ -22,15 +22,15 @@ use Rattle.gimple_ir.specs.declared.types.Statement.TheVariants.{Nop, Label, Got
 use Rattle.gimple_ir.specs.declared.lattice.Binding.TheVariants.{Arg as ArgumentOf}
 use Rattle.gimple_ir.specs.declared.versioned.Pair.{Pair}
 use Rattle.gimple_ir.specs.declared.versioned.Step.TheVariants as form
-use Rattle.gimple_meaning.specs.Acts.{Store, Act, Fault, Goes, Calls, Leaves, Exits, needing, cell, value_at, sets, copied, operation_of, case_label, element_type, element_at}
+use Rattle.gimple_meaning.specs.Acts.{Store, Act, Fault, Goes, Calls, needing, cell, value_at, sets, copied, operation_of, case_label, element_type, element_at}
 use Rattle.gimple_meaning.specs.Source as source
 use Rattle.gimple_meaning.specs.Source.{effect, effect_in, effect_at, taken, begun, can_pass}
 use Rattle.gimple_meaning.specs.Steps as steps
 use Rattle.gimple_meaning.specs.Steps.{Code, act, act_in, act_at, bound_by, opened_by}
-use Rattle.ipa_transform.specs.Versioned.{use_of, struct_pairs, step_of, steps_of, picked, kept_of, operands_of}
+use Rattle.ipa_transform.specs.Versioned.{step_of, steps_of, picked, kept_of, operands_of}
 use Rattle.plain_link.specs.Numbers.{function_number}
 use Rattle.plain_link.specs.Lowering.{member_of}
-use Rattle.machine_laws.specs.Linked.{linked_step, array_number}
+use Rattle.machine_laws.specs.Linked.{linked_step}
 use Rattle.lowering_laws.specs.Programs.{renumbered, function_in, storage_number}
 use Rattle.lowering_laws.specs.Linked.{linked_of}
 use Rattle.lowering_laws.proofs.Together.{SameAct}
@@ -47,7 +47,7 @@ needed (Some u) k l h = h u
 
 -- ---- one statement
 
-types_same : (variables : List Variable) → flat_map (λ (types : List ScalarType). types) (types_of variables) ≡ component_types variables
+pub types_same : (variables : List Variable) → flat_map (λ (types : List ScalarType). types) (types_of variables) ≡ component_types variables
 types_same variables = flat_map-map (λ (types : List ScalarType). types) (λ (v : Variable). v.types) variables
 
 goes_to : (m : Module) (main number : ℕ) (f : Function) (s : Store) (l : ℕ) → Goes (steps.place_of (code_at m main number f).body l) s [] ≡ Goes (source.place_of (function_in m f).body l) s []

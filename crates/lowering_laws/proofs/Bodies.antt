@@ -1,6 +1,6 @@
 -- A body and its steps: the step, the label and the call at each place.
-use Rattle.std.proofs.Common.{◌≡◌, ◌+◌, ◌<◌, ◌≤◌, ℕ, zero, suc, List, [], ◌∷◌, ◌++◌, length, map, Bool, true, false, cond, Some, None, refl, sym, ap, ap₂, ◌∙◌, subst, arith, append_assoc, length-append}
-use Rattle.std.specs.Prelude.{Option, slice_get, option_map, is_some, sum_by, take}
+use Rattle.std.proofs.Common.{◌≡◌, ◌+◌, ℕ, zero, suc, List, [], ◌∷◌, ◌++◌, length, map, Bool, cond, Some, None, refl, sym, ap, ap₂, ◌∙◌, subst, arith, append_assoc, length-append}
+use Rattle.std.specs.Prelude.{Option, slice_get, option_map, is_some, take}
 use Rattle.std.specs.List.{flat_map, filter_map, enumerate_from, cons_option, range_with_len}
 use Rattle.std.specs.Option.{option_map_or}
 use Rattle.std.proofs.lemmas.Option.{none-some, same_Some, slice_get-map}
@@ -15,19 +15,17 @@ use Rattle.gimple_ir.specs.declared.types.Variable.{Variable}
 use Rattle.gimple_ir.specs.declared.types.Function.{Function}
 use Rattle.gimple_ir.specs.declared.types.Module.{Module}
 use Rattle.gimple_ir.specs.declared.types.Statement.{Statement}
-use Rattle.gimple_ir.specs.declared.types.Statement.TheVariants.{Nop, Label, Goto, Cond, Switch, ReturnVoid, Return, Copy, Unary, Convert, Binary, Load, Store, CopyStruct, Call, Putchar, Getchar, Exit}
+use Rattle.gimple_ir.specs.declared.types.Statement.TheVariants.{Label, Call}
 use Rattle.gimple_ir.specs.declared.summary.Edge.{Edge}
-use Rattle.gimple_ir.specs.declared.unit.ArrayUse.{ArrayUse}
 use Rattle.gimple_ir.specs.declared.unit.CallUse.{CallUse}
 use Rattle.gimple_ir.specs.declared.unit.Member.{Member}
-use Rattle.gimple_ir.specs.declared.versioned.Pair.{Pair}
 use Rattle.gimple_ir.specs.declared.versioned.VersionedFunction.{VersionedFunction}
-use Rattle.gimple_ir.specs.CodeBound.{components_in, components_of}
+use Rattle.gimple_ir.specs.CodeBound.{components_of}
 use Rattle.gimple_meaning.specs.Source.{components_from, pairs_from}
 use Rattle.gimple_meaning.specs.Source as source
 use Rattle.gimple_meaning.specs.Steps as steps
 use Rattle.func_summary.specs.Summaries.{edge_arguments, edge_of, edges_of}
-use Rattle.ipa_transform.specs.Versioned.{first_component, field_count, operands_of, struct_pairs, at_place, picked, kept_of, step_of, calls_in, steps_of}
+use Rattle.ipa_transform.specs.Versioned.{first_component, field_count, operands_of, struct_pairs, picked, kept_of, step_of, calls_in, steps_of}
 use Rattle.plain_link.specs.Numbers.{function_symbol}
 use Rattle.plain_link.specs.Lowering.{all_of, call_use}
 use Rattle.machine_laws.specs.Linked.{LinkedProgram, linked_step}
@@ -78,21 +76,19 @@ edge_at : (f : Function) (place : ℕ) (pre : List Edge) (ss : List Statement) (
 edge_at f place pre [] i to g args here = absurd (none-some (Call to g args) here)
 edge_at f place pre (s ∷ ss) zero to g args here =
     let rest = filter_map (λ pair. edge_of f pair.0 pair.1) (enumerate_from (place + 1) ss) in
-    let same : s ≡ Call to g args = same_Some s (Call to g args) here in
-    (
+    let same : s ≡ Call to g args = same_Some s (Call to g args) here in (
       place,
       subst (λ (z : Statement). slice_get (pre ++ cons_option (edge_of f place z) rest) (length pre) ≡ Some (edge_with f place to g args)) (sym same)
-      (first_after pre (edge_with f place to g args) rest),
+          (first_after pre (edge_with f place to g args) rest),
     )
 edge_at f place pre (s ∷ ss) (suc i) to g args here =
     let rest = filter_map (λ pair. edge_of f pair.0 pair.1) (enumerate_from (place + 1) ss) in
     let one = cons_option (edge_of f place s) [] in
     let h = edge_at f (place + 1) (pre ++ one) ss i to g args here in
-    let count : length (pre ++ one) ≡ length pre + calls_in s = length-append pre one ∙ ap (λ (k : ℕ). length pre + k) (one_call f place s) in
-    (
+    let count : length (pre ++ one) ≡ length pre + calls_in s = length-append pre one ∙ ap (λ (k : ℕ). length pre + k) (one_call f place s) in (
       h.0,
       subst (λ (z : List Edge). slice_get z (calls_before (length pre + calls_in s) ss i) ≡ Some (edge_with f h.0 to g args)) (joined pre (edge_of f place s) rest)
-      (subst (λ (z : ℕ). slice_get ((pre ++ one) ++ rest) (calls_before z ss i) ≡ Some (edge_with f h.0 to g args)) count h.1),
+          (subst (λ (z : ℕ). slice_get ((pre ++ one) ++ rest) (calls_before z ss i) ≡ Some (edge_with f h.0 to g args)) count h.1),
     )
 
 -- ---- operands
@@ -150,8 +146,8 @@ all_picked {X} pre (x ∷ xs) =
     let later : picked ((pre ++ (x ∷ [])) ++ xs) (range_with_len (length (pre ++ (x ∷ []))) (length xs)) ≡ xs = all_picked (pre ++ (x ∷ [])) xs in
     let count : length (pre ++ (x ∷ [])) ≡ length pre + 1 = length-append pre (x ∷ []) in
     let rest : picked (pre ++ (x ∷ xs)) (range_with_len (length pre + 1) (length xs)) ≡ xs =
-            subst (λ (z : List X). picked z (range_with_len (length pre + 1) (length xs)) ≡ xs) (append_assoc pre (x ∷ []) xs)
-            (subst (λ (k : ℕ). picked ((pre ++ (x ∷ [])) ++ xs) (range_with_len k (length xs)) ≡ xs) count later) in
+    subst (λ (z : List X). picked z (range_with_len (length pre + 1) (length xs)) ≡ xs) (append_assoc pre (x ∷ []) xs)
+    (subst (λ (k : ℕ). picked ((pre ++ (x ∷ [])) ++ xs) (range_with_len k (length xs)) ≡ xs) count later) in
     ap₂ (λ (front back : List X). front ++ back) (ap (λ o. option_map_or (λ y. y ∷ []) o []) (first_after pre x xs)) rest
 
 -- the call at a place
@@ -164,10 +160,10 @@ call_stands m f i to g args here =
     let n = calls_before 0 f.body i in
     let e = edge_at f 0 [] f.body i to g args here in
     let uses : slice_get (map (call_use m) (edges_of f)) n ≡ Some (call_use m (edge_with f e.0 to g args)) =
-            slice_get-map (call_use m) (edges_of f) n ∙ ap (option_map (call_use m)) e.1 in
+    slice_get-map (call_use m) (edges_of f) n ∙ ap (option_map (call_use m)) e.1 in
     let ops = flat_map (source.operands_of f.variables) args in
     let kept : kept_of (map (call_use m) (edges_of f)) n ≡ all_of (length ops) =
-            ap (λ o. option_map_or (λ (c : CallUse). c.kept) o []) uses ∙ ap all_of (argument_count f args) in
+    ap (λ o. option_map_or (λ (c : CallUse). c.kept) o []) uses ∙ ap all_of (argument_count f args) in
     record {
       symbol = slice_get-map (λ (c : CallUse). c.symbol) (map (call_use m) (edges_of f)) n ∙ ap (option_map (λ (c : CallUse). c.symbol)) uses;
       passed = ap₂ (λ (xs : List Operand) (ks : List ℕ). picked xs ks) (operands_same f.variables args) kept ∙ all_picked [] ops;

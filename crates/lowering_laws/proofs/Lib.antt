@@ -7,3 +7,7 @@ pub mod Bodies
 pub mod Uses
 pub mod Acting
 pub mod Running
+pub mod Typing
+pub mod Labelled
+pub mod Stepping
+pub mod Typed

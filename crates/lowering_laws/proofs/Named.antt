@@ -1,9 +1,9 @@
 -- In a module that is a whole program, the symbols that statements name stand for the definitions with these numbers.
-use Rattle.std.proofs.Common.{◌≡◌, ◌+◌, ◌<◌, ◌≤◌, ◌^◌, ℕ, zero, suc, List, [], ◌∷◌, ◌++◌, length, map, map-id, get_or, Bool, true, false, cond, Some, None, refl, sym, ap, ◌∙◌, arith}
+use Rattle.std.proofs.Common.{◌≡◌, ◌+◌, ◌<◌, ℕ, zero, suc, List, [], ◌∷◌, ◌++◌, length, map, map-id, Bool, true, false, cond, Some, None, refl, sym, ap, ◌∙◌, arith}
 use Rattle.std.specs.Prelude.{Option, ◌||◌, not, slice_get, filter, option_map, unwrap_or, codes, decimal}
 use Rattle.std.specs.List.{enumerate_from, list_any}
 use Rattle.std.specs.Option.{option_map_or}
-use Rattle.std.proofs.lemmas.Option.{none-some, same_Some, slice_get-map, slice_get_within, slice_get-get_or, get_or_from_slice_get}
+use Rattle.std.proofs.lemmas.Option.{none-some, same_Some, slice_get-map, slice_get_within, get_or_from_slice_get}
 use Rattle.std.proofs.lemmas.List.{length-map}
 use Rattle.std.proofs.lemmas.List.FromFn.{length-range_with_len}
 use Rattle.gimple_ir.specs.declared.types.Array.{Array}
@@ -16,7 +16,7 @@ use Rattle.gimple_ir.specs.Checks.{is_extern}
 use Rattle.gimple_ir.specs.Programs.{IsChecked}
 use Rattle.ipa_transform.specs.Versioned.{versioned_of}
 use Rattle.final_link.specs.Arrays.{array_symbol}
-use Rattle.plain_link.specs.Numbers.{is_body, is_storage, numbers_from, symbol_by, function_number, function_symbols, function_symbol, array_symbols, storage_of}
+use Rattle.plain_link.specs.Numbers.{is_body, is_storage, numbers_from, symbol_by, function_number, function_symbol, storage_of}
 use Rattle.plain_link.specs.Numbers.{array_symbol as array_symbol_at}
 use Rattle.plain_link.specs.Lowering.{all_of, merged_array, merged_of, member_of}
 use Rattle.plain_link.specs.Linking.{is_declared_function, is_declared_array, names_declaration, is_open}
@@ -74,8 +74,8 @@ symbol_there m main n a here =
     let names = of_storage (λ (x : MergedArray). x.name) (λ (x : Array). x.name) (λ k x. refl) 0 m.arrays in
     let arrays = (merged_of m main).arrays in
     let named : option_map (λ (x : MergedArray). x.name) (slice_get arrays n) ≡ Some a.name =
-            sym (slice_get-map (λ (x : MergedArray). x.name) arrays n) ∙ ap (λ (xs : List (List ℕ)). slice_get xs n) names
-            ∙ slice_get-map (λ (x : Array). x.name) (filter is_storage m.arrays) n ∙ ap (option_map (λ (x : Array). x.name)) here in
+    sym (slice_get-map (λ (x : MergedArray). x.name) arrays n) ∙ ap (λ (xs : List (List ℕ)). slice_get xs n) names
+    ∙ slice_get-map (λ (x : Array). x.name) (filter is_storage m.arrays) n ∙ ap (option_map (λ (x : Array). x.name)) here in
     ap (λ (name : List ℕ). name ++ (codes ".a" ++ decimal n)) (name_there (slice_get arrays n) a.name named)
 
 count_same : (m : Module) → length (storage_of m) ≡ length (filter is_storage m.arrays)
@@ -93,8 +93,7 @@ symbols_there m main count j s at = by (slice_get (all_of count) j) refl
     by (Some k) e =
         let few = slice_get_within (all_of count) j k e in
         let inside : j < count = omega (arith, few, length-range_with_len 0 count) in
-        let first : 0 + j ≡ j = omega arith in
-        (
+        let first : 0 + j ≡ j = omega arith in (
           option_map_or (λ (a : MergedArray). a.name) (slice_get (merged_of m main).arrays j) [],
           sym (same_Some _ s (sym (ranged (array_symbol (merged_of m main)) 0 count j inside) ∙ at)) ∙ ap (array_symbol (merged_of m main)) first,
         )
@@ -110,12 +109,12 @@ array_found m main place checked lt defined = by (slice_get m.arrays place) refl
         let r = numbered (λ (x : Array). x.name) (codes ".a") is_storage 0 m.arrays place a here body in
         let first : 0 + r.0 ≡ r.0 = omega arith in
         let symbol : array_symbol_at m place ≡ symbol_by a.name (codes ".a") r.0 =
-                ap (λ o. unwrap_or o []) r.2 ∙ ap (λ (n : ℕ). symbol_by a.name (codes ".a") n) first in
+        ap (λ o. unwrap_or o []) r.2 ∙ ap (λ (n : ℕ). symbol_by a.name (codes ".a") n) first in
         let number : storage_number m place ≡ r.0 = get_or_from_slice_get (numbers_from is_storage 0 m.arrays) place (0 + r.0) 0 r.1 ∙ first in
         let inside : r.0 < length (storage_of m) = omega (arith, slice_get_within (filter is_storage m.arrays) r.0 a r.3, count_same m) in
         let there : slice_get (symbols_of_arrays m main) r.0 ≡ Some (symbol_by a.name (codes ".a") r.0) =
-                ranged (array_symbol (merged_of m main)) 0 (length (storage_of m)) r.0 inside
-                ∙ ap (λ (n : ℕ). Some (array_symbol (merged_of m main) n)) first ∙ ap Some (symbol_there m main r.0 a r.3) in
+        ranged (array_symbol (merged_of m main)) 0 (length (storage_of m)) r.0 inside
+        ∙ ap (λ (n : ℕ). Some (array_symbol (merged_of m main) n)) first ∙ ap Some (symbol_there m main r.0 a r.3) in
         ap (place_among (symbols_of_arrays m main)) symbol
         ∙ symbol_found (codes ".a") arrays_apart (symbols_of_arrays m main) a.name r.0 (omega (arith, r.4, lt, checked.stated.items)) there (symbols_there m main (length (storage_of m)))
         ∙ sym number
@@ -162,10 +161,10 @@ function_found m main place checked lt defined = by (slice_get m.functions place
         let r = numbered (λ (x : Function). x.name) (codes ".") is_body 0 m.functions place f here body in
         let first : 0 + r.0 ≡ r.0 = omega arith in
         let symbol : function_symbol m place ≡ symbol_by f.name (codes ".") r.0 =
-                ap (λ o. unwrap_or o []) r.2 ∙ ap (λ (n : ℕ). symbol_by f.name (codes ".") n) first in
+        ap (λ o. unwrap_or o []) r.2 ∙ ap (λ (n : ℕ). symbol_by f.name (codes ".") n) first in
         let number : function_number m place ≡ r.0 = get_or_from_slice_get (numbers_from is_body 0 m.functions) place (0 + r.0) 0 r.1 ∙ first in
         let there : slice_get (symbols_of_functions m) r.0 ≡ Some (symbol_by f.name (codes ".") r.0) =
-                symbol_at m r.0 ∙ ap (option_map (λ (x : Function). symbol_by x.name (codes ".") r.0)) r.3 in
+        symbol_at m r.0 ∙ ap (option_map (λ (x : Function). symbol_by x.name (codes ".") r.0)) r.3 in
         record {
           function = f;
           here = here;

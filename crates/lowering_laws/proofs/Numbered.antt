@@ -1,6 +1,6 @@
 -- Definitions among items: their numbers, their symbols, and where they stand in the list of definitions.
-use Rattle.std.proofs.Common.{◌≡◌, ◌+◌, ◌<◌, ◌≤◌, ℕ, zero, suc, List, [], ◌∷◌, length, map, Bool, true, false, cond, Some, None, refl, sym, ap, ◌∙◌, arith}
-use Rattle.std.specs.Prelude.{Option, slice_get, filter, option_map}
+use Rattle.std.proofs.Common.{◌≡◌, ◌+◌, ◌<◌, ◌≤◌, ℕ, zero, suc, List, [], ◌∷◌, map, Bool, true, false, cond, Some, refl, sym, ap, ◌∙◌, arith}
+use Rattle.std.specs.Prelude.{slice_get, filter, option_map}
 use Rattle.std.specs.List.{enumerate_from, range_with_len}
 use Rattle.std.proofs.lemmas.Option.{none-some, same_Some}
 use Rattle.plain_link.specs.Numbers.{numbers_from, symbol_by, symbols_from}
@@ -17,8 +17,7 @@ numbered name word defined k [] i x here passes = absurd (none-some x here)
 numbered name word defined k (y ∷ ys) zero x here passes =
     let same : y ≡ x = same_Some y x here in
     let test : defined y ≡ true = ap defined same ∙ passes in
-    let first : k ≡ k + 0 = omega arith in
-    (
+    let first : k ≡ k + 0 = omega arith in (
       0,
       ap (λ (n : ℕ). Some n) first,
       ap (λ (z : _). Some (symbol_by (name z) word k)) same ∙ ap (λ (n : ℕ). Some (symbol_by (name x) word n)) first,

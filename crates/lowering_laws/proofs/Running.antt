@@ -7,8 +7,8 @@ use Rattle.gimple_ir.specs.declared.types.Value.{Value}
 use Rattle.gimple_ir.specs.declared.types.Array.{Array}
 use Rattle.gimple_ir.specs.declared.types.Function.{Function}
 use Rattle.gimple_ir.specs.declared.types.Module.{Module}
-use Rattle.gimple_meaning.specs.Acts.{Store, Act}
-use Rattle.gimple_meaning.specs.Systems.{State, Running, fresh, first_arrays, start_in}
+use Rattle.gimple_meaning.specs.Acts.{Store}
+use Rattle.gimple_meaning.specs.Systems.{Running, fresh, first_arrays, start_in}
 use Rattle.gimple_meaning.specs.Source as source
 use Rattle.gimple_meaning.specs.Source.{effect_at, begun, source_of, start}
 use Rattle.gimple_meaning.specs.Steps as steps

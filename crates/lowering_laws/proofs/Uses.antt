@@ -1,6 +1,6 @@
 -- The arrays and functions that the statements of a whole program name, by the numbers that their symbols have.
-use Rattle.std.proofs.Common.{◌≡◌, ◌+◌, ◌<◌, ◌≤◌, ℕ, zero, suc, List, [], ◌∷◌, length, map, Bool, true, false, cond, eqb, eqb-true, Some, refl, ap, ◌∙◌, arith}
-use Rattle.std.specs.Prelude.{Option, slice_get, option_map, ◌&&◌}
+use Rattle.std.proofs.Common.{◌≡◌, ◌<◌, ℕ, suc, List, [], ◌∷◌, length, map, Bool, true, false, cond, eqb, eqb-true, Some, refl, ap, ◌∙◌, arith}
+use Rattle.std.specs.Prelude.{Option, slice_get, option_map}
 use Rattle.std.specs.List.{flat_map, list_all}
 use Rattle.std.specs.Option.{option_map_or}
 use Rattle.std.proofs.lemmas.Option.{slice_get-map}
@@ -8,7 +8,7 @@ use Rattle.gimple_ir.specs.declared.types.Arg.{Arg}
 use Rattle.gimple_ir.specs.declared.types.Function.{Function}
 use Rattle.gimple_ir.specs.declared.types.Module.{Module}
 use Rattle.gimple_ir.specs.declared.types.Statement.{Statement}
-use Rattle.gimple_ir.specs.declared.types.Statement.TheVariants.{Nop, Label, Goto, Cond, Switch, ReturnVoid, Return, Copy, Unary, Convert, Binary, Load, Store, CopyStruct, Call, Putchar, Getchar, Exit}
+use Rattle.gimple_ir.specs.declared.types.Statement.TheVariants.{Load, Store, Call}
 use Rattle.gimple_ir.specs.declared.unit.ArrayUse.{ArrayUse}
 use Rattle.gimple_ir.specs.declared.unit.CallUse.{CallUse}
 use Rattle.gimple_ir.specs.Statements.{knows, knows_component, knows_operand, knows_argument, knows_target, knows_array, knows_function}
@@ -18,12 +18,12 @@ use Rattle.gimple_meaning.specs.Steps.{Code}
 use Rattle.func_summary.specs.Summaries.{arrays_in, arrays_of, edges_of}
 use Rattle.func_summary.proofs.Checked.{below}
 use Rattle.ipa_transform.specs.Versioned.{operands_of, use_of, picked, kept_of}
-use Rattle.plain_link.specs.Numbers.{function_number, function_symbol}
+use Rattle.plain_link.specs.Numbers.{function_number}
 use Rattle.plain_link.specs.Lowering.{array_use, call_use, member_of}
 use Rattle.plain_link.specs.Linking.{is_declared_array, is_declared_function, names_declaration}
 use Rattle.plain_link.proofs.Facts.{three_true, facts}
 use Rattle.plain_link.proofs.Uses.{use_found}
-use Rattle.machine_laws.specs.Linked.{LinkedProgram, linked_code, array_number}
+use Rattle.machine_laws.specs.Linked.{linked_code, array_number}
 use Rattle.lowering_laws.specs.Whole.{IsWhole}
 use Rattle.lowering_laws.specs.Programs.{storage_number}
 use Rattle.lowering_laws.specs.Linked.{linked_of}
@@ -70,10 +70,9 @@ call_known : (m : Module) (main number : ℕ) (f : Function) → IsWhole m main 
 call_known m main number f whole i to g args at lt defined =
     let stands = call_stands m f i to g args at in
     let symbols = map (λ (c : CallUse). c.symbol) (map (call_use m) (edges_of f)) in
-    let named = (linked_of m main).function_named in
-    (
+    let named = (linked_of m main).function_named in (
       slice_get-map named symbols (calls_before 0 f.body i) ∙ ap (option_map named) stands.symbol
-      ∙ ap (λ (k : ℕ). Some k) (function_found m main g whole.checked lt defined).named,
+          ∙ ap (λ (k : ℕ). Some k) (function_found m main g whole.checked lt defined).named,
       stands.passed,
     )
 

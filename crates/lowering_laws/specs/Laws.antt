@@ -1,7 +1,6 @@
 -- The laws of the lowering of a module that is a whole program by itself.
 use Rattle.std.specs.Prelude.{ℕ, List}
 use Rattle.gimple_ir.specs.declared.types.Module.{Module}
-use Rattle.gimple_ir.specs.Programs.{IsProgram}
 use Rattle.gimple_meaning.specs.Systems.{State}
 use Rattle.gimple_meaning.specs.Run.{src}
 use Rattle.rv64_meaning.specs.Machine.{Outcome}
@@ -32,7 +31,3 @@ FollowsLaw =
 -- the versions are a well formed program of versions
 abbrev pub TypedLaw : Type 0
 TypedLaw = (m : Module) (main : ℕ) → IsWhole m main → ProgramTyped (linked_of m main)
-
--- the source is a well formed program
-abbrev pub WellFormedLaw : Type 0
-WellFormedLaw = (m : Module) (main : ℕ) → IsWhole m main → IsProgram (program_of m)

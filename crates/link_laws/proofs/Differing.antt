@@ -182,8 +182,7 @@ module _ (fs gs : List (List ℕ)) (functions : AllByRecursion (Made (codes ".")
       apart_append stub_names (fs ++ gs) stubs_apart (apart_append fs gs f a kinds_apart)
       (
         no_other (codes "__builtin_putchar") (no_function (codes "__builtin_putchar") putchar_no_function) (no_array (codes "__builtin_putchar") (λ b n named few. putchar_no_array b n named)),
-        no_other (codes "__builtin_getchar") (no_function (codes "__builtin_getchar") getchar_no_function) (no_array (codes "__builtin_getchar") (λ b n named few. getchar_no_array b n named)),
-        tt,
+        (no_other (codes "__builtin_getchar") (no_function (codes "__builtin_getchar") getchar_no_function) (no_array (codes "__builtin_getchar") (λ b n named few. getchar_no_array b n named)), tt),
       )
 
 pub symbols_differ : (m : Module) (main : ℕ) → IsWhole m main → Within m → repeats (map (λ e. e.0) (direct_symbols (functions_of m) (merged_of m main) (plan_of m).arrays)) ≡ false

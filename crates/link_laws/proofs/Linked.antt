@@ -43,10 +43,10 @@ by_main m image closed None begins e = absurd (no_image (linked_from m None) Unb
 by_main m image closed (Some main) begins e = by_limits m image main closed begins (first_passed (limits_of m)) refl e
 
 abbrev link_by : Module → Bool → Result (List ℕ) LinkFault
-link_by m open = cond open (Err Unbuilt) (linked_from m (main_of m))
+link_by m named = cond named (Err Unbuilt) (linked_from m (main_of m))
 
-by_open : (m : Module) (image : List ℕ) (open : Bool) → is_open m ≡ open → link_by m open ≡ Ok image → Linked m image
-by_open m image true open e = absurd (no_image (link_by m true) Unbuilt image refl e)
+by_open : (m : Module) (image : List ℕ) (named : Bool) → is_open m ≡ named → link_by m named ≡ Ok image → Linked m image
+by_open m image true named e = absurd (no_image (link_by m true) Unbuilt image refl e)
 by_open m image false closed e = by_main m image closed (main_of m) refl e
 
 pub linked : (m : Module) (image : List ℕ) → link_of m ≡ Ok image → Linked m image

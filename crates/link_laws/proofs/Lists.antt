@@ -64,11 +64,11 @@ another n a e le = grind (arith, nat_tests)
 
 pub among_range : (a count n : ℕ) → a ≤ n → n < a + count → list_any (nat_eq n) (range_with_len a count) ≡ true
 among_range a zero n le lt = absurd (omega (arith, le, lt))
-among_range a (suc count) n le lt = by (nat_eq n a) refl
+among_range a (suc count) n le lt = by (nat_eq n a) refl (λ later. among_range (a + 1) count n later (omega (arith, lt)))
   where
-    by : (b : Bool) → nat_eq n a ≡ b → (b || list_any (nat_eq n) (range_with_len (a + 1) count)) ≡ true
-    by true e = refl
-    by false e = among_range (a + 1) count n (another n a e le) (omega (arith, lt))
+    by : (b : Bool) → nat_eq n a ≡ b → (a + 1 ≤ n → list_any (nat_eq n) (range_with_len (a + 1) count) ≡ true) → (b || list_any (nat_eq n) (range_with_len (a + 1) count)) ≡ true
+    by true e rest = refl
+    by false e rest = rest (another n a e le)
 
 -- ---- elements whose numbers differ
 

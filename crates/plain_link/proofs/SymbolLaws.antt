@@ -13,7 +13,7 @@ use Rattle.plain_link.specs.Numbers.{symbol_by}
 
 -- ---- different names
 
-pub Apart : List (List ℕ) → Type 0
+unfoldable pub Apart : List (List ℕ) → Type 0
 Apart [] = Unit {0}
 Apart (name ∷ names) = AllByRecursion (λ n. name ≡ n → ⊥) names × Apart names
 

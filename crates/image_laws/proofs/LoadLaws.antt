@@ -1,21 +1,20 @@
 -- An image that is built of code and arrays can be loaded, and what the machine finds in it.
-use Rattle.std.proofs.Common.{◌≡◌, ℕ, zero, suc, ◌+◌, ◌-◌, ◌*◌, ◌/◌, ◌%◌, ◌^◌, ◌<◌, ◌≤◌, false, List, [], ◌∷◌, ◌++◌, length, take, drop, Some, None, refl, sym, ap, ◌∙◌, arith, append_assoc, append-nil, length-append}
+use Rattle.std.proofs.Common.{◌≡◌, ℕ, zero, suc, ◌+◌, ◌-◌, ◌*◌, ◌%◌, ◌^◌, ◌≤◌, false, List, [], ◌++◌, length, take, drop, Some, None, refl, sym, ap, ◌∙◌, arith, append_assoc, append-nil, length-append}
 use Rattle.std.specs.Prelude.{replicate, not, ◌==◌, nat_lt}
 use Rattle.std.specs.List.{position, prefix_len}
 use Rattle.std.proofs.Math.Seq.{drop-append_seam, take-append_seam}
 use Rattle.std.proofs.lemmas.List.{length-replicate}
 use Rattle.std.proofs.lemmas.Bool.{le-ltb, cond-false}
 use Rattle.std.specs.Option.{option_map, option_or}
-use Rattle.rv64_isa.specs.declared.instr.Instr.{Instr}
 use Rattle.rv64_meaning.specs.Machine.{Segments}
 use Rattle.rv64_meaning.specs.Loading.{first_nonzero, load_fault_of}
 use Rattle.rv64_meaning.specs.Loading as loading
 use Rattle.final_link.specs.Stubs.{stubs}
-use Rattle.final_link.specs.Image.{code_bytes, round_up, headers_with, text_size, text_with, data_address, scratch_behind, top_behind}
+use Rattle.final_link.specs.Image.{code_bytes, round_up, headers_with, text_size, text_with, data_address, top_behind}
 use Rattle.final_link.proofs.CodeLaws.{code_bytes-append}
 use Rattle.follow_laws.proofs.ImageLaws.{length-code_bytes, stands_in}
 use Rattle.follow_laws.proofs.EncodingLaws.{all_append, stubs_encode}
-use Rattle.image_laws.specs.Images.{Parts, PartsFit, arrays_in, scratch_in, top_in, start_in, image_in, segments_in, data_in, PartsLoad, PartsHaveSegments, PartsHaveData, PartsHaveCode}
+use Rattle.image_laws.specs.Images.{Parts, PartsFit, arrays_in, scratch_in, top_in, segments_in, PartsLoad, PartsHaveSegments, PartsHaveData, PartsHaveCode}
 use Rattle.image_laws.proofs.HeaderLaws.{length-headers, text_field, stored_field, data_field, start_field, header_right}
 
 -- ---- zeros

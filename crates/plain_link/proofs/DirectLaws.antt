@@ -137,7 +137,7 @@ member_once before behind f symbol same once =
     ∙ value_once other (member_at n f) f.symbol (entries_from 0 before) (entries_from (n + 1) behind)
     (sym (ap₂ (λ (name : List ℕ) (es : List (List ℕ × Member)). length (of_name name es)) same split) ∙ once)
 
-all_stand : (before fs : List VersionedFunction) (vs : List Version) (parts : List RelocObject) → parts ≡ map object_of (before ++ fs)
+pub all_stand : (before fs : List VersionedFunction) (vs : List Version) (parts : List RelocObject) → parts ≡ map object_of (before ++ fs)
     → map (λ v. v.symbol) vs ≡ map (λ f. f.symbol) fs
     → AllByRecursion (λ v. length (of_name v.symbol (members_from 0 parts)) ≡ 1) vs
     → AllByRecursion IsObject (map object_of fs) → AllByRecursion (λ f. frame_size (words_of_code f) ≡ frames.frame_size f) fs
@@ -184,7 +184,7 @@ words_by part size = take (size / 4) (option_map_or (λ o. o.words) part [])
 whole_words : (f : VersionedFunction) (ws : List ℕ) → ws ≡ words_of_code f → take (4 * length (words_of_code f) / 4) ws ≡ words_of_code f
 whole_words f ws e = take_all (4 * length (words_of_code f) / 4) ws (omega (arith, ap length e)) ∙ e
 
-words_same : (parts : List RelocObject) (part : ℕ) (f : VersionedFunction) → slice_get parts part ≡ Some (object_of f) → member_words parts (member_at part f) ≡ words_of_code f
+pub words_same : (parts : List RelocObject) (part : ℕ) (f : VersionedFunction) → slice_get parts part ≡ Some (object_of f) → member_words parts (member_at part f) ≡ words_of_code f
 words_same parts part f found =
     ap (λ (o : Option RelocObject). words_by o (4 * length (words_of_code f))) found ∙ whole_words f (object_of f).words (object_words f)
 
@@ -339,7 +339,7 @@ code_same patched parts symbols at (v ∷ vs) (f ∷ fs) h =
 
 -- ---- the symbols
 
-ends_same : (parts : List RelocObject) (at : ℕ) (vs : List Version) (fs : List VersionedFunction) → AllStand parts vs fs
+pub ends_same : (parts : List RelocObject) (at : ℕ) (vs : List Version) (fs : List VersionedFunction) → AllStand parts vs fs
     → end_of (version_size (members_from 0 parts)) at vs ≡ end_of code_size at fs
 ends_same parts at [] [] h = refl
 ends_same parts at [] (f ∷ fs) h = absurd h

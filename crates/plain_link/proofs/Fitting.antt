@@ -23,7 +23,7 @@ use Rattle.func_summary.proofs.Checked.{both-true, below}
 use Rattle.ipa_transform.specs.Versioned.{operands_of, use_of, picked, kept_of, step_of, calls_in, steps_of, versioned_of}
 use Rattle.ipa_transform.specs.Members.{IsMember}
 use Rattle.rv64_frame.specs.Frames.{passed_of, outgoing_of}
-use Rattle.rv64_select.specs.Versioned.{bound_of, StepFits, ComponentFits, OperandFits, ArrayFits, IsVersioned}
+use Rattle.rv64_select.specs.Versioned.{StepFits, ComponentFits, OperandFits, ArrayFits, IsVersioned, bound_of}
 use Rattle.rv64_select.specs.Versioned.{operands_in as step_operands}
 use Rattle.plain_link.specs.Lowering.{array_use, member_of}
 use Rattle.plain_link.proofs.Facts.{three_true, four_true, HasLabels, Facts, facts}
@@ -168,19 +168,21 @@ member_fits m place number f checked here =
       ascends = arrays_ascend m f;
     }
 
--- its bound is that of the function
-pub version_bound : (m : Module) (place number : ℕ) (f : Function) → IsChecked m → slice_get m.functions place ≡ Some f → bound_of (versioned_of (member_of m number f)) ≤ code_bound_of f
-version_bound m place number f checked here =
-    let body = sound_body m number f checked (facts m place f checked here) in
-    let bindings = length-map-range_with_len Arg 0 (parameter_components f) in
-    omega (arith, bindings, body.read)
-
 pub version_fits : (m : Module) (place number : ℕ) (f : Function) → IsChecked m → slice_get m.functions place ≡ Some f → IsVersioned (versioned_of (member_of m number f))
 version_fits m place number f checked here =
     let k = facts m place f checked here in
     let body = sound_body m number f checked k in
+    let bindings = length-map-range_with_len Arg 0 (parameter_components f) in
     record {
       slots = record { components = omega (arith, k.components, all_components f.variables); arguments = body.pass };
       steps = body.fit;
-      bound = omega (arith, k.bound, version_bound m place number f checked here);
+      bound = omega (arith, k.bound, bindings, body.read);
     }
+
+-- its code is in the function's bound
+pub version_bound : (m : Module) (place number : ℕ) (f : Function) → IsChecked m → slice_get m.functions place ≡ Some f → bound_of (versioned_of (member_of m number f)) ≤ code_bound_of f
+version_bound m place number f checked here =
+    let k = facts m place f checked here in
+    let body = sound_body m number f checked k in
+    let bindings = length-map-range_with_len Arg 0 (parameter_components f) in
+    omega (arith, bindings, body.read)

@@ -15,3 +15,6 @@ pub mod Made
 pub mod DirectLaws
 pub mod PlanLaws
 pub mod SymbolLaws
+pub mod KnownLaws
+pub mod PlaceLaws
+pub mod LinkLaws

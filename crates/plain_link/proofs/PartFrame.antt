@@ -16,6 +16,8 @@ use Rattle.rv64_select.specs.Assembly.{plain, enter_code, bindings_items, step_i
 use Rattle.rv64_select.specs.Code.{laid, blank, label_offset, unfilled}
 use Rattle.rv64_select.specs.Selected.{words_of_code}
 use Rattle.final_link.specs.Members.{frame_constant, frame_code, HasFrame}
+use Rattle.final_link.specs.Members as members
+use Rattle.final_link.proofs.FrameLaws.{frame_is_read}
 
 -- ---- the constant
 
@@ -84,3 +86,8 @@ has_frame f h =
       most = most;
       even = sixteens ((8 * (outgoing_of f.body + length f.types + 1) + 15) / 16);
     }
+
+-- the size that is read from the words
+pub frame_is : (f : VersionedFunction) → HasFewSlots f → members.frame_size (words_of_code f) ≡ frame_size f
+unfolding has_frame
+frame_is f h = frame_is_read (words_of_code f) (has_frame f h)

@@ -17,6 +17,7 @@ use crate::symbols::{Symbols, is_body};
 use crate::whole::{is_open, main_of};
 use elf_container::RelocObject;
 use final_link::place;
+use follow_laws::patched_is_direct;
 use func_summary::summarise;
 use gimple_ir::{List, Module, NoMemory, Plan, Version};
 use std::alloc::Global;
@@ -89,6 +90,7 @@ fn image_of(alloc: Global, source: &Module, main: u32) -> Result<Vec<u8>, NoMemo
         arrays: all_of(alloc, merged.arrays.len() as u32)?,
         code: 1,
     };
+    patched_is_direct();
     place(alloc, &plan, &merged, compiled.parts.as_slice())
 }
 

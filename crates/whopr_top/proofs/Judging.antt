@@ -78,8 +78,7 @@ exactly_other limit held command cs s n w x differs read judged = record {
 }
 
 not_long : (limit : ℕ) (file : Option (List ℕ)) (bytes : List ℕ) → file ≡ Some bytes → length bytes ≤ limit → IsLonger limit file → ⊥
-not_long limit None bytes is within long = absurd long
-not_long limit (Some other) bytes is within long = grind (arith, is, within, long)
+not_long limit file bytes is within long = grind (arith, is, within, long.1, long.2)
 
 -- files that are held within the limit are not too long
 not_over : (limit : ℕ) (held : Contents) (names : List (List ℕ)) (cs : List (List ℕ)) → AreHeld limit held names cs → IsOverLimit limit held names → ⊥
@@ -166,7 +165,7 @@ the_one old new name bytes (between, writes, same) = subst (λ (c : Contents). W
 
 -- ---- the image of a text that was compiled
 
-written_of : Judgement → List File
+abbrev written_of : Judgement → List File
 written_of (Refuses s x) = []
 written_of (Gives w x) = w
 

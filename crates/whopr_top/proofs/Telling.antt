@@ -5,7 +5,7 @@ use Rattle.outer_files.specs.Outside.{Contents, Known, Rose, RoseBy}
 use Rattle.whopr_words.specs.Commands.{Spoken}
 use Rattle.rv64_meaning.specs.Machine.{Outcome, Running, Ended, Trapped}
 use Rattle.whopr_top.specs.Lines.{line, outcome_line, kind_word, object_word, object_place, quantity_word, spaced}
-use Rattle.whopr_top.specs.Answers.{Exactly, lines_of, IsQuiet, IsLine, PutsFault, PutsLine, after_fault, WasPut}
+use Rattle.whopr_top.specs.Answers.{Exactly, lines_of, IsQuiet, CanBeSilent, IsLine, PutsFault, PutsLine, after_fault, WasPut}
 use Rattle.whopr_top.specs.Attempts.{Lined, Judged}
 use Rattle.whopr_top.specs.Refusal.{Reports, Tells, refusal_line, status_of}
 use Rattle.whopr_top.specs.declared.refusal.Refusal.{Refusal}
@@ -106,6 +106,22 @@ reported limit held new command before now status result text old known not_0 no
 reported limit held new command before now status result text old known not_0 not_none lined judged (inr (inr (inr lacked))) = inr (inr (inr (inr lacked)))
 
 -- ---- the text of a command that was done
+
+pub done_lined : (limit : ℕ) (command : Option Spoken) (old : Option Contents) (text : List ℕ) → (IsQuiet command → text ≡ []) → (text ≡ [] → CanBeSilent command)
+    → Lined limit command old 0 text
+done_lined limit command old text quiet silent = record {
+  quiet = λ _. quiet;
+  silent = λ _. silent;
+  words = λ is. grind (arith, is);
+  object = λ is. grind (arith, is);
+  over = λ is. grind (arith, is);
+  read = λ is. grind (arith, is);
+  write = λ is. grind (arith, is);
+  memory = λ is. grind (arith, is);
+  spelled = λ is. grind (arith, is);
+  image = λ is. grind (arith, is);
+  unbuilt = λ is. grind (arith, is);
+}
 
 pub told : (limit : ℕ) (held new : Option Contents) (command : Option Spoken) (before now result : ℕ) (text : List ℕ) (old known : Known)
     → Lined limit command held 0 text → Judged limit command held new before now 0 text → Tells text result old known → PutsLine limit held command result old known

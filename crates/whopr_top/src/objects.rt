@@ -1,5 +1,6 @@
 // The object and the image of a text, and the text of an object.
 ghost use Rattle.std.specs.Prelude.{◌≡◌, ◌<◌, ◌≤◌, ◌-◌, ◌^◌, [], length, IfOk, IfErr};
+ghost use Rattle.gimple_ir.specs.Programs.{IsChecked};
 ghost use Rattle.gimple_syntax.specs.Reading.{SpellsModule};
 ghost use Rattle.lto_object.specs.Objects.{object_of as object_bytes};
 ghost use Rattle.lto_object.specs.ObjectReading.{read_of, Fails};
@@ -30,7 +31,8 @@ const OBJECT_BYTES: usize = (1 << 32) - 2;
 pub fn image_of(alloc: Global, text: &[u8], source: &Module) -> Result<Vec<u8>, LinkError>
     requires short { length text.now < 2 ^ 32 - 1 }
     requires spelled { SpellsModule text.now source.now }
-    ensures { Links result (link_of source.now) }
+    ensures linked { Links result (link_of source.now) }
+    ensures checked { IsChecked source.now }
 {
     read_is_checked();
     let bytes = lgen(alloc, source)?;

@@ -34,24 +34,24 @@ loop-place-preserved c =
     let part = λ (e : ℕ × Function). object_of (versioned_of (member_of m e.0 e.1)) in
     elim c.if-is_body.branch [
       | then-is_body+in_ok-compile_function w ↦
-        let body = sym c.is_body.ensures ∙ w.if-is_body.true in
-        let made = w.in_ok-compile_function.ensures in (
-          w.number-is ∙ ap (λ (n : ℕ). n + 1) kept.0 ∙ sym (bodies_counted functions i f inside is body),
-          ap (λ (x : _). x.versions.items) w.compiled-is
-          ∙ at_element (λ (g : Function). _) functions i f here made.versions ∙ ap (λ (vs : List Version). vs ++ version (number, f) ∷ []) kept.1
-          ∙ sym (bodies_more version functions i f number inside is body kept.0),
-          ap (λ (x : _). x.parts.items) w.compiled-is
-          ∙ at_element (λ (g : Function). _) functions i f here made.objects ∙ ap (λ (os : List RelocObject). os ++ part (number, f) ∷ []) kept.2
-          ∙ sym (bodies_more part functions i f number inside is body kept.0),
-          subst (λ (x : _). All IsPart x.parts.items) (sym w.compiled-is) made.parts,
-        )
+          let body = sym c.is_body.ensures ∙ w.if-is_body.true in
+          let made = w.in_ok-compile_function.ensures in (
+            w.number-is ∙ ap (λ (n : ℕ). n + 1) kept.0 ∙ sym (bodies_counted functions i f inside is body),
+            ap (λ (x : _). x.versions.items) w.compiled-is
+                ∙ at_element (λ (g : Function). _) functions i f here made.versions ∙ ap (λ (vs : List Version). vs ++ version (number, f) ∷ []) kept.1
+                ∙ sym (bodies_more version functions i f number inside is body kept.0),
+            ap (λ (x : _). x.parts.items) w.compiled-is
+                ∙ at_element (λ (g : Function). _) functions i f here made.objects ∙ ap (λ (os : List RelocObject). os ++ part (number, f) ∷ []) kept.2
+                ∙ sym (bodies_more part functions i f number inside is body kept.0),
+            subst (λ (x : _). All IsPart x.parts.items) (sym w.compiled-is) made.parts,
+          )
       | else-is_body w ↦
-        let none = bodies_kept functions i f inside is (sym c.is_body.ensures ∙ w.if-is_body.false) in (
-          w.number-is ∙ kept.0 ∙ sym (ap length none),
-          ap (λ (x : _). x.versions.items) w.compiled-is ∙ kept.1 ∙ sym (ap (λ (fs : List Function). map version (enumerate_from 0 fs)) none),
-          ap (λ (x : _). x.parts.items) w.compiled-is ∙ kept.2 ∙ sym (ap (λ (fs : List Function). map part (enumerate_from 0 fs)) none),
-          subst (λ (x : _). All IsPart x.parts.items) (sym w.compiled-is) kept.3,
-        )
+          let none = bodies_kept functions i f inside is (sym c.is_body.ensures ∙ w.if-is_body.false) in (
+            w.number-is ∙ kept.0 ∙ sym (ap length none),
+            ap (λ (x : _). x.versions.items) w.compiled-is ∙ kept.1 ∙ sym (ap (λ (fs : List Function). map version (enumerate_from 0 fs)) none),
+            ap (λ (x : _). x.parts.items) w.compiled-is ∙ kept.2 ∙ sym (ap (λ (fs : List Function). map part (enumerate_from 0 fs)) none),
+            subst (λ (x : _). All IsPart x.parts.items) (sym w.compiled-is) kept.3,
+          )
     ]
 
 pub returns-clause-versions : goal.returns-clause-versions

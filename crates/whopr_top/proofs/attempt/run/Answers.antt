@@ -1,7 +1,12 @@
-use Rattle.std.proofs.Common.{◌∷◌, [], Err, ap, arith}
+use Rattle.std.proofs.Common.{◌∷◌, [], Err, sym, ◌∙◌, ap, arith}
 use Rattle.std.proofs.lemmas.Grind.{common_steps}
 use Rattle.whopr_top.proofs.Judging.{two_reads, one_written, one_cut_short, refused, done, cut_short, run_faults, run_gives}
+use Rattle.whopr_top.proofs.Telling.{done_lined, outcome_is_some}
 use Rattle.whopr_top.proofs.attempt.run.Goals as goal
+
+pub returns-in-Ok-write_all-clause-lined : goal.returns-in-Ok-write_all-clause-lined
+returns-in-Ok-write_all-clause-lined g c =
+    done_lined _ _ _ _ (λ quiet. absurd quiet) (λ none. absurd (outcome_is_some _ (sym c.in-Ok-run_image.ensures.line ∙ none)))
 
 pub returns-in-Err-Fault-clause-judged : goal.returns-in-Err-Fault-clause-judged
 returns-in-Err-Fault-clause-judged g c =

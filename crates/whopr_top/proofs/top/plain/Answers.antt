@@ -18,7 +18,7 @@ pub returns-in-Ok-clause-printed : goal.returns-in-Ok-clause-printed
 returns-in-Ok-clause-printed g c = told _ _ _ _ _ _ _ _ _ _ c.in-Ok.ensures.lined c.in-Ok.ensures.judged (rw c.deref.ensures.value at c.tell.ensures.printed)
 
 pub returns-in-Err-clause-limit : goal.returns-in-Err-clause-limit
-returns-in-Err-clause-limit g c = λ held told. exactly_kept 4 _ _ _ c.report.ensures.status (λ is. grind (arith, is)) (c.in-Err.ensures.attempt.over held told)
+returns-in-Err-clause-limit g c = λ held told. exactly_kept 4 _ _ _ c.report.ensures.status (λ is. grind (arith, is)) (c.in-Err.ensures.judged.large held told)
 
 pub returns-in-Err-clause-absent : goal.returns-in-Err-clause-absent
 returns-in-Err-clause-absent g c = λ held told absent. fault_kept _ _ c.report.ensures.status (c.in-Err.ensures.attempt.absent held told absent)

@@ -179,8 +179,7 @@ module _ (fs gs : List (List ℕ)) (functions : AllByRecursion (Made (codes ".")
 
   all_apart : Apart fs → Apart gs → Apart (stub_names ++ (fs ++ gs))
   all_apart f a =
-      apart_append stub_names (fs ++ gs) stubs_apart (apart_append fs gs f a kinds_apart)
-      (
+      apart_append stub_names (fs ++ gs) stubs_apart (apart_append fs gs f a kinds_apart) (
         no_other (codes "__builtin_putchar") (no_function (codes "__builtin_putchar") putchar_no_function) (no_array (codes "__builtin_putchar") (λ b n named few. putchar_no_array b n named)),
         (no_other (codes "__builtin_getchar") (no_function (codes "__builtin_getchar") getchar_no_function) (no_array (codes "__builtin_getchar") (λ b n named few. getchar_no_array b n named)), tt),
       )

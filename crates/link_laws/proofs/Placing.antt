@@ -60,7 +60,7 @@ module _ (m : Module) (main : ℕ) (whole : IsWhole m main) where
         kept = refl;
         element = λ a at.
             let there : slice_get (filter is_storage m.arrays) s.number ≡ Some a =
-                    ap (λ (xs : List Array). slice_get xs s.number) (sym (same_arrays m main)) ∙ ap (slice_get p.arrays) (sym number) ∙ at in
+            ap (λ (xs : List Array). slice_get xs s.number) (sym (same_arrays m main)) ∙ ap (slice_get p.arrays) (sym number) ∙ at in
             ap (λ (x : Array). x.element) (same_Some a s.array (sym there ∙ s.there)) ∙ sym s.element ∙ ap (λ (x : ArrayUse). x.element) (sym i.is);
         address = ap l.address (ap (λ (x : ArrayUse). x.symbol) i.is ∙ s.symbol) ∙ ap l.array (sym number);
       }

@@ -1,8 +1,7 @@
 -- What the image of the plan has, it has of the program that the module is linked as: both give the same numbers to the symbols that
 -- functions name, and every array is kept.
-use Rattle.std.proofs.Common.{◌≡◌, ◌<◌, ℕ, suc, List, [], ◌∷◌, length, map, Bool, true, false, cond, Some, refl, sym, ap, ◌∙◌, subst, arith}
-use Rattle.std.specs.Prelude.{slice_get, filter, nat_eq}
-use Rattle.std.specs.List.{list_any}
+use Rattle.std.proofs.Common.{◌≡◌, ℕ, suc, List, [], ◌∷◌, length, map, Bool, true, false, cond, Some, refl, sym, ap, ◌∙◌, subst, arith}
+use Rattle.std.specs.Prelude.{slice_get, filter}
 use Rattle.std.specs.Str.{bytes_eq}
 use Rattle.std.proofs.lemmas.Option.{none-some, same_Some, slice_get_within}
 use Rattle.std.proofs.lemmas.Slice.Eq.{bytes_eq-Decides}
@@ -60,7 +59,7 @@ module _ (m : Module) (main : ℕ) (whole : IsWhole m main) where
         kept = refl;
         element = λ a at.
             let there : slice_get (filter is_storage m.arrays) s.number ≡ Some a =
-                    ap (λ (xs : List Array). slice_get xs s.number) (sym (same_arrays m main)) ∙ ap (slice_get p.arrays) (sym number) ∙ at in
+            ap (λ (xs : List Array). slice_get xs s.number) (sym (same_arrays m main)) ∙ ap (slice_get p.arrays) (sym number) ∙ at in
             ap (λ (x : Array). x.element) (same_Some a s.array (sym there ∙ s.there)) ∙ sym s.element ∙ ap (λ (x : ArrayUse). x.element) (sym i.is);
         address = ap l.address (ap (λ (x : ArrayUse). x.symbol) i.is ∙ s.symbol) ∙ ap l.array (sym number);
       }

@@ -10,11 +10,11 @@ use Rattle.plain_link.specs.Lowering.{plan_of, merged_of, functions_of}
 use Rattle.plain_link.specs.Linking.{is_open, main_of, limits_of, first_passed, linked_within, linked_from, link_of}
 
 abbrev link_by : Module → Bool → Result (List ℕ) LinkFault
-link_by m open = if open then Err Unbuilt else linked_from m (main_of m)
+link_by m named = if named then Err Unbuilt else linked_from m (main_of m)
 
 pub open_unbuilt : (m : Module) → is_open m ≡ true → link_of m ≡ Err Unbuilt
 unfolding link_of
-open_unbuilt m open = ap (link_by m) open
+open_unbuilt m named = ap (link_by m) named
 
 closed_links : (m : Module) → is_open m ≡ false → link_of m ≡ linked_from m (main_of m)
 unfolding link_of

@@ -1,9 +1,9 @@
 -- What stands behind the versions and arrays of a module that is a whole program: its functions and arrays.
-use Rattle.std.proofs.Common.{◌≡◌, ◌+◌, ◌<◌, ◌≤◌, ◌^◌, ℕ, zero, suc, List, [], ◌∷◌, ◌++◌, length, map, filter, not, Bool, true, false, cond, Option, Some, None, refl, sym, ap, ◌∙◌, subst, arith}
-use Rattle.std.specs.Prelude.{All, ◌||◌, nat_eq, slice_get, option_map, unwrap_or, codes}
-use Rattle.std.specs.List.{AllByRecursion, list_any, list_all, flat_map, enumerate_from, range_with_len}
+use Rattle.std.proofs.Common.{◌≡◌, ◌+◌, ◌<◌, ℕ, zero, suc, List, [], ◌∷◌, length, map, filter, not, Bool, true, false, cond, Option, Some, None, refl, sym, ap, ◌∙◌, subst, arith}
+use Rattle.std.specs.Prelude.{◌||◌, nat_eq, slice_get, option_map, unwrap_or, codes}
+use Rattle.std.specs.List.{AllByRecursion, list_any, flat_map, enumerate_from, range_with_len}
 use Rattle.std.specs.Option.{option_map_or}
-use Rattle.std.proofs.lemmas.Option.{none-some, same_Some, slice_get-map, slice_get_within, get_or_from_slice_get}
+use Rattle.std.proofs.lemmas.Option.{none-some, same_Some, slice_get_within, get_or_from_slice_get}
 use Rattle.std.proofs.lemmas.List.{length-map}
 use Rattle.gimple_ir.specs.declared.types.Array.{Array}
 use Rattle.gimple_ir.specs.declared.types.ElementType.TheVariants as element

@@ -1,7 +1,6 @@
 -- The plan of a module that is a whole program and passes no limit has a direct image.
-use Rattle.std.proofs.Common.{◌≡◌, ◌<◌, ℕ, List, length, true, Some, sym, ap, ◌∙◌, subst, arith}
-use Rattle.std.specs.Prelude.{All, nat_eq, slice_get}
-use Rattle.std.specs.List.{list_any}
+use Rattle.std.proofs.Common.{ℕ, length, sym, ap, ◌∙◌, subst, arith}
+use Rattle.std.specs.Prelude.{All}
 use Rattle.std.proofs.lemmas.Option.{same_Some}
 use Rattle.gimple_ir.specs.declared.types.Module.{Module}
 use Rattle.gimple_ir.specs.declared.merged.MergedArray.{MergedArray}
@@ -10,7 +9,7 @@ use Rattle.gimple_ir.specs.declared.versioned.VersionedFunction.{VersionedFuncti
 use Rattle.func_summary.proofs.Checked.{all-from_places}
 use Rattle.rv64_select.specs.Versioned.{IsVersioned}
 use Rattle.plain_link.specs.Numbers.{storage_of}
-use Rattle.plain_link.specs.Lowering.{merged_array, plan_of, merged_of, functions_of, array_use}
+use Rattle.plain_link.specs.Lowering.{merged_array, plan_of, merged_of, functions_of}
 use Rattle.plain_link.proofs.Fitting.{version_fits}
 use Rattle.plain_link.proofs.PlanLaws.{Within, main_stands, arrays_defined, same_symbols}
 use Rattle.lowering_laws.specs.Whole.{IsWhole}
@@ -37,7 +36,7 @@ pub is_direct : (m : Module) (main : ℕ) → IsWhole m main → Within m → Is
 is_direct m main whole within = record {
   versioned = all-from_places IsVersioned (functions_of m)
       (λ g v at. let o = is_of m g v at in subst IsVersioned (sym o.is) (version_fits m o.place g o.function whole.checked o.here));
-  differ = symbols_differ m main whole within;
+  differ = symbols_differ m main whole.checked;
   arrays = arrays_defined m main whole.checked;
   uses = all-from_places (λ (v : VersionedFunction). All (UseIsKept (plan_of m) (merged_of m main)) v.arrays) (functions_of m)
       (λ g v at. all-from_places (UseIsKept (plan_of m) (merged_of m main)) v.arrays

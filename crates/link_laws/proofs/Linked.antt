@@ -1,6 +1,6 @@
 -- A module that has an image: it is closed, has its `main` and passes no limit, and the image is the direct one.
-use Rattle.std.proofs.Common.{◌≡◌, ◌+◌, ◌<◌, ◌≤◌, ℕ, suc, List, [], ◌∷◌, length, map, filter, not, Bool, true, false, cond, Option, Some, None, refl, arith, ltb-true}
-use Rattle.std.specs.Prelude.{Result, Ok, Err, position, nat_lt, ◌==◌, ◌&&◌}
+use Rattle.std.proofs.Common.{◌≡◌, ◌+◌, ◌<◌, ◌≤◌, ℕ, List, [], ◌∷◌, length, map, filter, not, Bool, true, false, cond, Option, Some, None, refl, arith, ltb-true}
+use Rattle.std.specs.Prelude.{Result, Ok, Err, nat_lt, ◌==◌, ◌&&◌}
 use Rattle.std.specs.List.{enumerate_from, position_or_len}
 use Rattle.std.proofs.lemmas.Bool.Decides.{nat_tests}
 use Rattle.gimple_ir.specs.declared.types.Function.{Function}

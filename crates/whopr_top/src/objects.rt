@@ -27,14 +27,11 @@ pub fn object_of(alloc: Global, text: &[u8], source: &Module) -> Result<Vec<u8>,
 // The most bytes of an object that can be read.
 const OBJECT_BYTES: usize = (1 << 32) - 2;
 
-/// The image of a module that a text spells, by way of its object.
-pub fn image_of(alloc: Global, text: &[u8], source: &Module) -> Result<Vec<u8>, LinkError>
-    requires short { length text.now < 2 ^ 32 - 1 }
-    requires spelled { SpellsModule text.now source.now }
-    ensures linked { Links result (link_of source.now) }
-    ensures checked { IsChecked source.now }
+// The image of a checked module, by way of its object.
+fn image_by_object(alloc: Global, source: &Module) -> Result<Vec<u8>, LinkError>
+    requires { IsChecked source.now }
+    ensures { Links result (link_of source.now) }
 {
-    read_is_checked();
     let bytes = lgen(alloc, source)?;
     if bytes.len() > OBJECT_BYTES {
         return link_module(alloc, source);
@@ -44,6 +41,17 @@ pub fn image_of(alloc: Global, text: &[u8], source: &Module) -> Result<Vec<u8>, 
         Err(ObjectError::Fault(_)) => unreachable!(),
         Err(ObjectError::NoMemory) => Err(LinkError::NoMemory),
     }
+}
+
+/// The image of a module that a text spells, which is a checked one.
+pub fn image_of(alloc: Global, text: &[u8], source: &Module) -> Result<Vec<u8>, LinkError>
+    requires short { length text.now < 2 ^ 32 - 1 }
+    requires spelled { SpellsModule text.now source.now }
+    ensures linked { Links result (link_of source.now) }
+    ensures checked { IsChecked source.now }
+{
+    read_is_checked();
+    image_by_object(alloc, source)
 }
 
 /// The canonical text of an object's module.

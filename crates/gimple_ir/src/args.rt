@@ -7,10 +7,10 @@ use smallvec::SmallVec;
 use std::alloc::Global;
 use std::marker::Model;
 
-/// The arguments of a call, of which up to four take no memory of their own.
+/// The arguments of a call, of which one takes no memory of its own.
 #[derive(Debug, Drop)]
 pub struct Args {
-    items: SmallVec<Arg, 4, Global>,
+    items: SmallVec<Arg, 1, Global>,
 }
 
 impl Model for Args {

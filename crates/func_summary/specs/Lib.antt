@@ -2,3 +2,4 @@ pub mod JumpFunctions
 pub mod Summaries
 pub mod Tables
 pub mod Ready
+pub mod Summarised

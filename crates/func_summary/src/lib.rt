@@ -1,5 +1,6 @@
 //! The summary of a function: what the whole program is decided from, without its body. `specs/Summaries.antt` says what
-//! a summary holds, and `specs/JumpFunctions.antt` what an argument of a call is, said over the caller's parameters.
+//! a summary holds, `specs/JumpFunctions.antt` what an argument of a call is, said over the caller's parameters, and
+//! `specs/Summarised.antt` when what a link knows of a whole program is true of it.
 //!
 //! `summarise` goes over the body once for each part of the summary: the operand places, the assignments, the arrays and
 //! the calls. Places and assignments are counted in a table of the function's components, so that no part scans the

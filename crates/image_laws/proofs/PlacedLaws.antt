@@ -31,7 +31,8 @@ use Rattle.follow_laws.proofs.WayLaws.{stands_front, stands_back}
 use Rattle.machine_laws.specs.Layouts.{Layout, FunctionPlaced, StubsPlaced, ArrayPlaced, UsePlaced, IsPlaced, function_code}
 use Rattle.machine_laws.specs.Layouts as machine
 use Rattle.image_laws.specs.Images.{Parts, PartsFit, arrays_in, scratch_in, top_in, start_in, image_in, segments_in}
-use Rattle.image_laws.specs.Direct.{symbol_address, parts_of, linked_of, layout_of, UseIsKept, IsDirect, DirectLoads, DirectIsPlaced}
+use Rattle.machine_laws.specs.Plans.{linked_of}
+use Rattle.image_laws.specs.Direct.{symbol_address, parts_of, layout_of, UseIsKept, IsDirect, DirectLoads, DirectIsPlaced}
 use Rattle.image_laws.proofs.Lists.{some_is, all_at, in_front, behind, number_found, find_passes, mapped_at, at_mapped, place_at, ends_within, ends_before, end_aligned, repeats_behind, value_at}
 use Rattle.image_laws.proofs.LoadLaws.{parts_load, parts_have_segments, parts_have_code}
 use Rattle.image_laws.proofs.CodeLaws.{code_length, codes_encode, codes_length, codes_stand, codes_bytes, codes_aligned, frames_small, frame_within}

@@ -49,7 +49,8 @@ use Rattle.machine_laws.specs.Relation.{ElementHeld, ArraysHeld, AtFrame, Relate
 use Rattle.machine_laws.specs.Starts.{AtStart}
 use Rattle.machine_laws.proofs.CallRows.{Ready, BindingFits, entry_run}
 use Rattle.image_laws.specs.Images.{Parts, start_in, segments_in, data_in, top_in}
-use Rattle.image_laws.specs.Direct.{linked_of, layout_of, IsDirect}
+use Rattle.machine_laws.specs.Plans.{linked_of}
+use Rattle.image_laws.specs.Direct.{layout_of, IsDirect}
 use Rattle.image_laws.specs.Start.{StartHasArrays, first_of, StartIsAtStart, StartRelates}
 use Rattle.image_laws.proofs.Lists.{none_there, all_at, mapped_at, at_mapped}
 use Rattle.image_laws.proofs.LoadLaws.{parts_have_data}

@@ -21,7 +21,7 @@ use Rattle.final_link.specs.Arrays.{size_of, bytes_of, array_symbol, stored_arra
 use Rattle.final_link.specs.Symbols.{end_of, arrays_in_order}
 use Rattle.final_link.specs.Placing.{is_first_of, main_address}
 use Rattle.follow_laws.specs.Direct.{code_size, direct_symbols, address_of, largest_frame, direct_image}
-use Rattle.machine_laws.specs.Linked.{LinkedProgram}
+use Rattle.machine_laws.specs.Plans.{linked_of}
 use Rattle.machine_laws.specs.Layouts.{Layout, IsPlaced}
 use Rattle.image_laws.specs.Images.{Parts, scratch_in}
 
@@ -44,19 +44,7 @@ parts_of plan merged functions = record {
   zeroed = end_of (size_of merged) 0 (zeroed_arrays merged plan.arrays);
 }
 
--- ---- the program and where it lies
-
--- what a function gives where it gives something, by its number
-abbrev pub linked_of : Plan → Merged → List VersionedFunction → (ℕ → ScalarType) → LinkedProgram
-linked_of plan merged functions results = record {
-  arrays = map (λ a. a.item) merged.arrays;
-  functions = functions;
-  main = position_or_len (is_first_of merged.main) plan.versions;
-  function_named = λ name. position_or_len (λ f. bytes_eq name f.symbol) functions;
-  array_named = λ name. value_of (length merged.arrays) name (map (λ k. (array_symbol merged k, k)) (arrays_in_order merged plan.arrays));
-  is_kept = λ number. list_any (nat_eq number) plan.arrays;
-  result_type = results;
-}
+-- ---- where the program lies
 
 abbrev pub layout_of : Plan → Merged → List VersionedFunction → Layout
 layout_of plan merged functions =

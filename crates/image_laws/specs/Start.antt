@@ -14,7 +14,8 @@ use Rattle.machine_laws.specs.Linked.{LinkedProgram, linked_system}
 use Rattle.machine_laws.specs.Typed.{ProgramTyped}
 use Rattle.machine_laws.specs.Relation.{ArraysHeld, Related}
 use Rattle.machine_laws.specs.Starts.{AtStart}
-use Rattle.image_laws.specs.Direct.{linked_of, layout_of, IsDirect}
+use Rattle.machine_laws.specs.Plans.{linked_of}
+use Rattle.image_laws.specs.Direct.{layout_of, IsDirect}
 
 abbrev pub StartHasArrays : Type 0
 StartHasArrays =

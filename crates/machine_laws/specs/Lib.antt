@@ -1,4 +1,5 @@
 pub mod Linked
+pub mod Plans
 pub mod Typed
 pub mod Layouts
 pub mod Relation

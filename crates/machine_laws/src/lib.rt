@@ -1,6 +1,7 @@
 //! That the image of a program follows it, step by step: functions that do nothing, whose clauses are the laws.
 //!
-//! In specs/, `Linked` has a program of versions as a system, `Typed` what it is for one to be well formed, `Layouts` where its
+//! In specs/, `Linked` has a program of versions as a system, `Plans` the one of a plan, `Typed` what it is for one to be well formed,
+//! `Layouts` where its
 //! image has what, `Relation` the one relation between a state of the run and a state of the machine, `Rows` what each row of the
 //! step table keeps of it, and `Starts` that the machine follows the program from its start.
 #![tactic(auto)]

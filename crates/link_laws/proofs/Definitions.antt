@@ -19,11 +19,11 @@ use Rattle.gimple_ir.specs.Statements.{knows, knows_component, knows_operand, kn
 use Rattle.func_summary.specs.Summaries.{arrays_in, names_array, arrays_of}
 use Rattle.func_summary.proofs.Checked.{below}
 use Rattle.final_link.specs.Arrays.{array_symbol}
-use Rattle.plain_link.specs.Numbers.{is_body, is_storage, numbers_from, symbol_by, storage_of}
-use Rattle.plain_link.specs.Numbers.{array_symbol as array_symbol_at}
-use Rattle.plain_link.specs.Lowering.{merged_array, merged_of, functions_of, array_use, element_of}
-use Rattle.plain_link.specs.Linking.{is_declared_array, names_declaration}
-use Rattle.plain_link.proofs.Facts.{three_true, same_number, facts}
+use Rattle.program_link.specs.Numbers.{is_body, is_storage, numbers_from, symbol_by, storage_of}
+use Rattle.program_link.specs.Numbers.{array_symbol as array_symbol_at}
+use Rattle.program_link.specs.Lowering.{merged_array, merged_of, functions_of, array_use, element_of}
+use Rattle.program_link.specs.Linking.{is_declared_array, names_declaration}
+use Rattle.program_link.proofs.Facts.{three_true, same_number, facts}
 use Rattle.lowering_laws.specs.Whole.{IsWhole}
 use Rattle.lowering_laws.specs.Programs.{storage_number}
 use Rattle.lowering_laws.specs.Linked.{linked_of}

@@ -14,9 +14,9 @@ use Rattle.final_link.specs.declared.members.Member.{Member}
 use Rattle.final_link.specs.Arrays.{size_of, array_symbol}
 use Rattle.final_link.specs.Symbols.{end_of, places_of, stub_symbols, array_symbols, arrays_in_order, symbols_of}
 use Rattle.follow_laws.specs.Direct.{code_size, direct_symbols}
-use Rattle.plain_link.specs.Lowering.{merged_of, plan_of, functions_of}
-use Rattle.plain_link.proofs.PlanLaws.{same_symbols}
-use Rattle.plain_link.proofs.PlaceLaws.{all_differ}
+use Rattle.program_link.specs.Lowering.{merged_of, plan_of, functions_of}
+use Rattle.program_link.proofs.PlanLaws.{same_symbols}
+use Rattle.program_link.proofs.PlaceLaws.{all_differ}
 
 places_names : {X : Type 0} (name : X → List ℕ) (size : X → ℕ) (at : ℕ) (xs : List X) → map (λ e. e.0) (places_of name size at xs) ≡ map name xs
 places_names name size at [] = refl

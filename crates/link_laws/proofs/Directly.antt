@@ -8,10 +8,10 @@ use Rattle.gimple_ir.specs.declared.unit.ArrayUse.{ArrayUse}
 use Rattle.gimple_ir.specs.declared.versioned.VersionedFunction.{VersionedFunction}
 use Rattle.func_summary.proofs.Checked.{all-from_places}
 use Rattle.rv64_select.specs.Versioned.{IsVersioned}
-use Rattle.plain_link.specs.Numbers.{storage_of}
-use Rattle.plain_link.specs.Lowering.{merged_array, plan_of, merged_of, functions_of}
-use Rattle.plain_link.proofs.Fitting.{version_fits}
-use Rattle.plain_link.proofs.PlanLaws.{Within, main_stands, arrays_defined, same_symbols}
+use Rattle.program_link.specs.Numbers.{storage_of}
+use Rattle.program_link.specs.Lowering.{merged_array, plan_of, merged_of, functions_of}
+use Rattle.program_link.proofs.Fitting.{version_fits}
+use Rattle.program_link.proofs.PlanLaws.{Within, main_stands, arrays_defined, same_symbols}
 use Rattle.lowering_laws.specs.Whole.{IsWhole}
 use Rattle.image_laws.specs.Direct.{UseIsKept, IsDirect}
 use Rattle.link_laws.proofs.Lists.{among_range}

@@ -5,8 +5,8 @@ use Rattle.gimple_ir.specs.Programs.{IsChecked}
 use Rattle.rv64_meaning.specs.Loading.{segments_of, start_of, load_fault_of}
 use Rattle.follow_laws.specs.Direct.{direct_image}
 use Rattle.follow_laws.specs.Follows.{Follows}
-use Rattle.plain_link.specs.Lowering.{plan_of, merged_of, functions_of}
-use Rattle.plain_link.proofs.PlanLaws.{limits_kept}
+use Rattle.program_link.specs.Lowering.{plan_of, merged_of, functions_of}
+use Rattle.program_link.proofs.PlanLaws.{limits_kept}
 use Rattle.machine_laws.specs.Starts.{MachineFollows}
 use Rattle.lowering_laws.specs.Whole.{IsWhole}
 use Rattle.lowering_laws.specs.Programs.{program_of}

@@ -8,12 +8,12 @@ use Rattle.gimple_ir.specs.declared.types.Module.{Module}
 use Rattle.gimple_ir.specs.declared.plan.Version.{Version}
 use Rattle.final_link.specs.Placing.{is_first_of}
 use Rattle.follow_laws.specs.Direct.{direct_image}
-use Rattle.plain_link.specs.declared.fault.LinkFault.{LinkFault}
-use Rattle.plain_link.specs.declared.fault.LinkFault.TheVariants.{Unbuilt, Limit}
-use Rattle.plain_link.specs.declared.fault.LimitFault.{LimitFault}
-use Rattle.plain_link.specs.Numbers.{is_body}
-use Rattle.plain_link.specs.Lowering.{version_of, versions_of, plan_of, merged_of, functions_of}
-use Rattle.plain_link.specs.Linking.{is_open, is_main, main_of, limits_of, first_passed, linked_within, linked_from, link_of}
+use Rattle.program_link.specs.declared.fault.LinkFault.{LinkFault}
+use Rattle.program_link.specs.declared.fault.LinkFault.TheVariants.{Unbuilt, Limit}
+use Rattle.program_link.specs.declared.fault.LimitFault.{LimitFault}
+use Rattle.program_link.specs.Numbers.{is_body}
+use Rattle.program_link.specs.Lowering.{version_of, versions_of, plan_of, merged_of, functions_of}
+use Rattle.program_link.specs.Linking.{is_open, is_main, main_of, limits_of, first_passed, linked_within, linked_from, link_of}
 
 pub record Linked (m : Module) (image : List ℕ) : Type 0 where
   pub main : ℕ

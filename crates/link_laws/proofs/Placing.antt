@@ -10,8 +10,8 @@ use Rattle.gimple_ir.specs.declared.types.Module.{Module}
 use Rattle.gimple_ir.specs.declared.unit.ArrayUse.{ArrayUse}
 use Rattle.gimple_ir.specs.declared.versioned.VersionedFunction.{VersionedFunction}
 use Rattle.rv64_meaning.specs.Machine.{Segments, State}
-use Rattle.plain_link.specs.Numbers.{is_storage, storage_of}
-use Rattle.plain_link.specs.Lowering.{plan_of, merged_of, functions_of}
+use Rattle.program_link.specs.Numbers.{is_storage, storage_of}
+use Rattle.program_link.specs.Lowering.{plan_of, merged_of, functions_of}
 use Rattle.machine_laws.specs.Linked.{LinkedProgram}
 use Rattle.machine_laws.specs.Layouts.{Layout, UsePlaced, IsPlaced}
 use Rattle.machine_laws.specs.Starts.{AtStart}

@@ -15,10 +15,10 @@ use Rattle.final_link.specs.Arrays.{size_of}
 use Rattle.final_link.specs.Symbols.{end_of, arrays_in_order}
 use Rattle.final_link.proofs.ArrayLaws.{end_from, kept_small, kept_end}
 use Rattle.follow_laws.specs.Direct.{code_size}
-use Rattle.plain_link.specs.Numbers.{is_body, storage_of}
-use Rattle.plain_link.specs.Lowering.{merged_array, plan_of, merged_of, functions_of}
-use Rattle.plain_link.proofs.Fitting.{version_fits, version_bound}
-use Rattle.plain_link.proofs.PlanLaws.{Within, numbers_below, numbers_ascend, size_is}
+use Rattle.program_link.specs.Numbers.{is_body, storage_of}
+use Rattle.program_link.specs.Lowering.{merged_array, plan_of, merged_of, functions_of}
+use Rattle.program_link.proofs.Fitting.{version_fits, version_bound}
+use Rattle.program_link.proofs.PlanLaws.{Within, numbers_below, numbers_ascend, size_is}
 use Rattle.lowering_laws.proofs.Named.{version_at}
 use Rattle.lowering_laws.proofs.Numbered.{from_items}
 

@@ -28,8 +28,8 @@ use Rattle.gimple_meaning.specs.Source.{effect, effect_in, effect_at, taken, beg
 use Rattle.gimple_meaning.specs.Steps as steps
 use Rattle.gimple_meaning.specs.Steps.{Code, act, act_in, act_at, bound_by, opened_by}
 use Rattle.ipa_transform.specs.Versioned.{step_of, steps_of, picked, kept_of, operands_of}
-use Rattle.plain_link.specs.Numbers.{function_number}
-use Rattle.plain_link.specs.Lowering.{member_of}
+use Rattle.program_link.specs.Numbers.{function_number}
+use Rattle.program_link.specs.Lowering.{member_of}
 use Rattle.machine_laws.specs.Linked.{linked_step}
 use Rattle.lowering_laws.specs.Programs.{renumbered, function_in, storage_number}
 use Rattle.lowering_laws.specs.Linked.{linked_of}

@@ -26,8 +26,8 @@ use Rattle.gimple_meaning.specs.Source as source
 use Rattle.gimple_meaning.specs.Steps as steps
 use Rattle.func_summary.specs.Summaries.{edge_arguments, edge_of, edges_of}
 use Rattle.ipa_transform.specs.Versioned.{first_component, field_count, operands_of, struct_pairs, picked, kept_of, step_of, calls_in, steps_of}
-use Rattle.plain_link.specs.Numbers.{function_symbol}
-use Rattle.plain_link.specs.Lowering.{all_of, call_use}
+use Rattle.program_link.specs.Numbers.{function_symbol}
+use Rattle.program_link.specs.Lowering.{all_of, call_use}
 use Rattle.machine_laws.specs.Linked.{LinkedProgram, linked_step}
 use Rattle.lowering_laws.specs.Programs.{renumbered}
 

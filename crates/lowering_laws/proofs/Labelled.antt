@@ -16,7 +16,7 @@ use Rattle.gimple_ir.specs.Checks.{label_of, counts_up, labels_in_order, goals_s
 use Rattle.gimple_meaning.specs.Steps.{place_of, is_label}
 use Rattle.func_summary.proofs.Checked.{both-true}
 use Rattle.ipa_transform.specs.Versioned.{step_of, calls_in, steps_of}
-use Rattle.plain_link.specs.Lowering.{member_of}
+use Rattle.program_link.specs.Lowering.{member_of}
 use Rattle.machine_laws.specs.Typed.{StandsOnce}
 use Rattle.lowering_laws.proofs.Named.{version_at}
 

@@ -16,10 +16,10 @@ use Rattle.gimple_ir.specs.Checks.{is_extern}
 use Rattle.gimple_ir.specs.Programs.{IsChecked}
 use Rattle.ipa_transform.specs.Versioned.{versioned_of}
 use Rattle.final_link.specs.Arrays.{array_symbol}
-use Rattle.plain_link.specs.Numbers.{is_body, is_storage, numbers_from, symbol_by, function_number, function_symbol, storage_of}
-use Rattle.plain_link.specs.Numbers.{array_symbol as array_symbol_at}
-use Rattle.plain_link.specs.Lowering.{all_of, merged_array, merged_of, member_of}
-use Rattle.plain_link.specs.Linking.{is_declared_function, is_declared_array, names_declaration, is_open}
+use Rattle.program_link.specs.Numbers.{is_body, is_storage, numbers_from, symbol_by, function_number, function_symbol, storage_of}
+use Rattle.program_link.specs.Numbers.{array_symbol as array_symbol_at}
+use Rattle.program_link.specs.Lowering.{all_of, merged_array, merged_of, member_of}
+use Rattle.program_link.specs.Linking.{is_declared_function, is_declared_array, names_declaration, is_open}
 use Rattle.lowering_laws.specs.Programs.{storage_number}
 use Rattle.lowering_laws.specs.Linked.{place_among, symbols_of_functions, symbols_of_arrays, linked_of}
 use Rattle.lowering_laws.proofs.Numbered.{numbered, enumerated, ranged}

@@ -3,7 +3,7 @@ use Rattle.std.proofs.Common.{◌≡◌, ◌+◌, ◌<◌, ◌≤◌, ℕ, zero,
 use Rattle.std.specs.Prelude.{slice_get, filter, option_map}
 use Rattle.std.specs.List.{enumerate_from, range_with_len}
 use Rattle.std.proofs.lemmas.Option.{none-some, same_Some}
-use Rattle.plain_link.specs.Numbers.{numbers_from, symbol_by, symbols_from}
+use Rattle.program_link.specs.Numbers.{numbers_from, symbol_by, symbols_from}
 
 -- the item at place i is defined, has number k + n and a symbol by it, and stands at place n of the definitions
 abbrev pub IsNumbered : {X : Type 0} → (X → List ℕ) → List ℕ → (X → Bool) → ℕ → List X → ℕ → X → Type 0

@@ -14,7 +14,7 @@ use Rattle.gimple_meaning.specs.Source.{effect_at, begun, source_of, start}
 use Rattle.gimple_meaning.specs.Steps as steps
 use Rattle.gimple_meaning.specs.Steps.{Code, act_at, opened_by}
 use Rattle.gimple_meaning.specs.Run.{src}
-use Rattle.plain_link.specs.Numbers.{is_body, is_storage}
+use Rattle.program_link.specs.Numbers.{is_body, is_storage}
 use Rattle.machine_laws.specs.Linked.{linked_code, linked_codes, linked_system}
 use Rattle.lowering_laws.specs.States.{SameState}
 use Rattle.lowering_laws.specs.Whole.{IsWhole}

@@ -38,10 +38,10 @@ use Rattle.func_summary.specs.Summaries.{arrays_in, arrays_of}
 use Rattle.func_summary.proofs.Checked.{both-true}
 use Rattle.ipa_transform.specs.Versioned.{use_of}
 use Rattle.rv64_select.specs.Assembly.{type_of, type_of_component, element_of}
-use Rattle.plain_link.specs.Numbers.{is_body}
-use Rattle.plain_link.specs.Lowering.{array_use, member_of}
-use Rattle.plain_link.specs.Lowering as linking
-use Rattle.plain_link.proofs.Uses.{use_found}
+use Rattle.program_link.specs.Numbers.{is_body}
+use Rattle.program_link.specs.Lowering.{array_use, member_of}
+use Rattle.program_link.specs.Lowering as linking
+use Rattle.program_link.proofs.Uses.{use_found}
 use Rattle.machine_laws.specs.Typed.{TargetTyped, ArgumentsTyped}
 use Rattle.lowering_laws.specs.Linked.{given_type, result_type_of}
 use Rattle.lowering_laws.proofs.Numbered.{ranged}

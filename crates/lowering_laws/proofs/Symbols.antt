@@ -6,7 +6,7 @@ use Rattle.std.specs.Str.Parse.{digits_value}
 use Rattle.std.proofs.lemmas.Fmt.{decimal_by_steps, decimal_is_IsNumeral}
 use Rattle.std.proofs.lemmas.Option.{none-some, same_Some}
 use Rattle.std.proofs.lemmas.Slice.Eq.{bytes_eq-Decides}
-use Rattle.plain_link.specs.Numbers.{symbol_by}
+use Rattle.program_link.specs.Numbers.{symbol_by}
 use Rattle.lowering_laws.specs.Linked.{place_among}
 
 -- ---- digits

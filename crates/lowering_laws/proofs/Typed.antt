@@ -41,11 +41,11 @@ use Rattle.func_summary.proofs.Checked.{both-true, below, all_at, three-none, fa
 use Rattle.ipa_transform.specs.Versioned.{step_of, picked, kept_of}
 use Rattle.ipa_transform.specs.Versioned as lowered
 use Rattle.rv64_select.specs.Assembly.{type_of, type_of_component}
-use Rattle.plain_link.specs.Numbers.{is_body, function_number}
-use Rattle.plain_link.specs.Lowering.{functions_of, bindings_of, member_of}
-use Rattle.plain_link.specs.Linking.{is_declared_function, names_declaration, is_main, is_global, gives_int}
-use Rattle.plain_link.proofs.Fitting.{version_fits}
-use Rattle.plain_link.proofs.Facts.{three_true, four_true, all_true, Facts, facts}
+use Rattle.program_link.specs.Numbers.{is_body, function_number}
+use Rattle.program_link.specs.Lowering.{functions_of, bindings_of, member_of}
+use Rattle.program_link.specs.Linking.{is_declared_function, names_declaration, is_main, is_global, gives_int}
+use Rattle.program_link.proofs.Fitting.{version_fits}
+use Rattle.program_link.proofs.Facts.{three_true, four_true, all_true, Facts, facts}
 use Rattle.machine_laws.specs.Linked.{callee_number}
 use Rattle.machine_laws.specs.Typed.{TargetTyped, ArgumentsTyped, StepTyped, FunctionTyped, ProgramTyped}
 use Rattle.lowering_laws.specs.Whole.{IsWhole}

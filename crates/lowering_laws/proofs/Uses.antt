@@ -18,11 +18,11 @@ use Rattle.gimple_meaning.specs.Steps.{Code}
 use Rattle.func_summary.specs.Summaries.{arrays_in, arrays_of, edges_of}
 use Rattle.func_summary.proofs.Checked.{below}
 use Rattle.ipa_transform.specs.Versioned.{operands_of, use_of, picked, kept_of}
-use Rattle.plain_link.specs.Numbers.{function_number}
-use Rattle.plain_link.specs.Lowering.{array_use, call_use, member_of}
-use Rattle.plain_link.specs.Linking.{is_declared_array, is_declared_function, names_declaration}
-use Rattle.plain_link.proofs.Facts.{three_true, facts}
-use Rattle.plain_link.proofs.Uses.{use_found}
+use Rattle.program_link.specs.Numbers.{function_number}
+use Rattle.program_link.specs.Lowering.{array_use, call_use, member_of}
+use Rattle.program_link.specs.Linking.{is_declared_array, is_declared_function, names_declaration}
+use Rattle.program_link.proofs.Facts.{three_true, facts}
+use Rattle.program_link.proofs.Uses.{use_found}
 use Rattle.machine_laws.specs.Linked.{linked_code, array_number}
 use Rattle.lowering_laws.specs.Whole.{IsWhole}
 use Rattle.lowering_laws.specs.Programs.{storage_number}

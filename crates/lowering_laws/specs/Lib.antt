@@ -1,5 +1,3 @@
 pub mod States
-pub mod Whole
-pub mod Programs
 pub mod Linked
 pub mod Laws

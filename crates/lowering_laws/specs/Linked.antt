@@ -1,56 +1,31 @@
--- What a module that is a whole program is linked as: the versions of its functions, its arrays, and the numbers of what its
--- symbols name.
-use Rattle.std.specs.Prelude.{ℕ, suc, true, List, [], ◌∷◌, length, map, filter, slice_get, if◌then◌else◌}
+-- What a whole program is linked as under a plan: the plan's versions, and what each gives.
+use Rattle.std.specs.Prelude.{ℕ, List, length, slice_get}
 use Rattle.std.specs.Option.{option_map_or}
-use Rattle.std.specs.Str.{bytes_eq}
 use Rattle.gimple_ir.specs.declared.types.ScalarType.{ScalarType}
 use Rattle.gimple_ir.specs.declared.types.ScalarType.TheVariants.{Int}
 use Rattle.gimple_ir.specs.declared.types.ResultType.{ResultType}
 use Rattle.gimple_ir.specs.declared.types.ResultType.TheVariants as returned
-use Rattle.gimple_ir.specs.declared.types.Module.{Module}
+use Rattle.gimple_ir.specs.declared.types.Program.{Program}
+use Rattle.gimple_ir.specs.declared.plan.Plan.{Plan}
+use Rattle.gimple_ir.specs.declared.merged.Merged.{Merged}
 use Rattle.gimple_meaning.specs.Systems.{State, start_in}
 use Rattle.gimple_meaning.specs.Run.{run}
-use Rattle.final_link.specs.Arrays.{array_symbol}
-use Rattle.plain_link.specs.Numbers.{is_body, storage_of}
-use Rattle.plain_link.specs.Lowering.{all_of, merged_of, functions_of}
+use Rattle.program_link.specs.Versions.{functions_of}
 use Rattle.machine_laws.specs.Linked.{LinkedProgram, linked_system}
-
--- ---- symbols
-
--- the place of a symbol among these; past the end where it is not there
-abbrev pub place_among : List (List ℕ) → List ℕ → ℕ
-place_among [] symbol = 0
-place_among (s ∷ ss) symbol = if bytes_eq s symbol then 0 else suc (place_among ss symbol)
-
--- by the functions' numbers
-abbrev pub symbols_of_functions : Module → List (List ℕ)
-symbols_of_functions m = map (λ f. f.symbol) (functions_of m)
-
--- by the arrays' numbers
-abbrev pub symbols_of_arrays : Module → ℕ → List (List ℕ)
-symbols_of_arrays m main = map (array_symbol (merged_of m main)) (all_of (length (storage_of m)))
-
--- ---- the program
+use Rattle.machine_laws.specs.Plans.{linked_of}
+use Rattle.lowering_laws.specs.States.{function_of_version}
 
 -- a function that gives nothing has no use of a type
 abbrev pub given_type : ResultType → ScalarType
 given_type returned.Void = Int
 given_type (returned.Scalar type) = type
 
-abbrev pub result_type_of : Module → ℕ → ScalarType
-result_type_of m number = option_map_or (λ f. given_type f.result) (slice_get (filter is_body m.functions) number) Int
+-- what the version at a place gives, where it gives something
+abbrev pub result_type_of : Program → Plan → ℕ → ScalarType
+result_type_of p plan place = option_map_or (λ f. given_type f.result) (slice_get p.functions (function_of_version p plan place)) Int
 
--- every array is kept
-abbrev pub linked_of : Module → ℕ → LinkedProgram
-linked_of m main = record {
-  arrays = map (λ a. a.item) (merged_of m main).arrays;
-  functions = functions_of m;
-  main = main;
-  function_named = place_among (symbols_of_functions m);
-  array_named = place_among (symbols_of_arrays m main);
-  is_kept = λ number. true;
-  result_type = result_type_of m;
-}
+abbrev pub linked : Program → Merged → Plan → LinkedProgram
+linked p merged plan = linked_of plan merged (functions_of p merged plan) (result_type_of p plan)
 
 -- ---- runs
 

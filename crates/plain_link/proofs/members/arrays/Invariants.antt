@@ -1,6 +1,0 @@
-use Rattle.std.proofs.Common.{◌≡◌, map, take}
-use Rattle.plain_link.specs.Lowering.{array_use}
-use Rattle.plain_link.proofs.members.arrays.Given as goal
-
-abbrev pub invariant-loop-array : goal.invariant-loop-array
-invariant-loop-array l = l.uses.items ≡ map (array_use l.source) (take l.array-index l.named)

@@ -1,6 +1,0 @@
-use Rattle.std.proofs.Common.{◌≡◌, map, take}
-use Rattle.plain_link.specs.Lowering.{call_use}
-use Rattle.plain_link.proofs.members.calls.Given as goal
-
-abbrev pub invariant-loop-edge : goal.invariant-loop-edge
-invariant-loop-edge l = l.uses.items ≡ map (call_use l.source) (take l.edge-index l.edges)

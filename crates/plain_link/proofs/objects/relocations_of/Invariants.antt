@@ -1,6 +1,0 @@
-use Rattle.std.proofs.Common.{◌≡◌, map, take}
-use Rattle.plain_link.specs.Objects.{placed}
-use Rattle.plain_link.proofs.objects.relocations_of.Given as goal
-
-abbrev pub invariant-loop-reloc : goal.invariant-loop-reloc
-invariant-loop-reloc l = l.found.items ≡ map (placed l.own) (take l.reloc-index l.relocations)

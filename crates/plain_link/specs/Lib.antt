@@ -1,5 +1,0 @@
-pub mod Numbers
-pub mod Known
-pub mod Lowering
-pub mod Objects
-pub mod Linking

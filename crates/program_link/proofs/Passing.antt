@@ -1,0 +1,203 @@
+-- What a member's steps read and pass: components that are there, and no more operands than its statements have.
+use Rattle.std.proofs.Common.{◌≡◌, ◌+◌, ◌<◌, ◌≤◌, ℕ, zero, suc, List, [], ◌∷◌, length, map, true, refl, ap, ◌∙◌, arith, Some, None}
+use Rattle.std.specs.Prelude.{All, Option, slice_get, sum_by}
+use Rattle.std.specs.List.{flat_map, filter_map, enumerate_from, cons_option, list_all}
+use Rattle.std.specs.Option.{option_map_or}
+use Rattle.std.proofs.lemmas.List.{length-append}
+use Rattle.std.proofs.lemmas.List.Concat.{length-flat_map}
+use Rattle.std.proofs.lemmas.List.Elements.{All-nil, All-cons, All-append}
+use Rattle.std.proofs.lemmas.List.Folds.{flat_map-map}
+use Rattle.std.proofs.lemmas.List.FromFn.{length-range_with_len}
+use Rattle.std.proofs.lemmas.List.Sums.{sum_by-cons}
+use Rattle.gimple_ir.specs.declared.types.ScalarType.{ScalarType}
+use Rattle.gimple_ir.specs.declared.types.Operand.{Operand}
+use Rattle.gimple_ir.specs.declared.types.Operand.TheVariants.{Component, Literal}
+use Rattle.gimple_ir.specs.declared.types.Arg.{Arg}
+use Rattle.gimple_ir.specs.declared.types.Arg.TheVariants.{One, Whole}
+use Rattle.gimple_ir.specs.declared.types.Variable.{Variable}
+use Rattle.gimple_ir.specs.declared.types.Function.{Function}
+use Rattle.gimple_ir.specs.declared.types.Module.{Module}
+use Rattle.gimple_ir.specs.declared.types.Statement.{Statement}
+use Rattle.gimple_ir.specs.declared.types.Statement.TheVariants.{Call}
+use Rattle.gimple_ir.specs.declared.summary.Edge.{Edge}
+use Rattle.gimple_ir.specs.declared.unit.CallUse.{CallUse}
+use Rattle.gimple_ir.specs.declared.versioned.Pair.{Pair}
+use Rattle.gimple_ir.specs.declared.versioned.VersionedFunction.{VersionedFunction}
+use Rattle.gimple_ir.specs.CodeBound.{components_in, components_of}
+use Rattle.gimple_ir.specs.Statements.{component_types, knows_component, knows_operand, knows_argument, knows_target}
+use Rattle.gimple_ir.specs.Checks.{scope_in}
+use Rattle.gimple_meaning.specs.Source.{components_from, pairs_from}
+use Rattle.gimple_checks.proofs.Lists.{map_here}
+use Rattle.func_summary.specs.Summaries.{edge_of, edges_of}
+use Rattle.func_summary.proofs.Checked.{both-true, below, all_at, all_flat_map, place_inside}
+use Rattle.ipa_transform.specs.Versioned.{first_component, field_count, operands_of, struct_pairs, at_place, picked, kept_of, calls_in, versioned_of}
+use Rattle.ipa_transform.proofs.Sums.{field_count-within}
+use Rattle.rv64_select.specs.Versioned.{ComponentFits, OperandFits, TargetFits}
+use Rattle.program_link.specs.Lowering.{all_of, call_use, member_of}
+
+-- ---- components
+
+abbrev pub version_at : Module → ℕ → Function → VersionedFunction
+version_at m number f = versioned_of (member_of m number f)
+
+abbrev pub types_of : List Variable → List (List ScalarType)
+types_of variables = map (λ (v : Variable). v.types) variables
+
+pub same_components : (variables : List Variable) → length (flat_map (λ (types : List ScalarType). types) (types_of variables)) ≡ length (component_types variables)
+same_components variables = ap length (flat_map-map (λ (types : List ScalarType). types) (λ (v : Variable). v.types) variables)
+
+pub all_components : (variables : List Variable) → length (flat_map (λ (types : List ScalarType). types) (types_of variables)) ≡ components_in variables
+all_components variables = same_components variables ∙ length-flat_map (λ (v : Variable). v.types) variables
+
+pub sum_components : (variables : List Variable) → sum_by (λ (types : List ScalarType). length types) (types_of variables) ≡ components_in variables
+sum_components [] = refl
+sum_components (v ∷ vs) =
+    omega (arith, sum_components vs, sum_by-cons (λ (types : List ScalarType). length types) v.types (types_of vs), sum_by-cons (λ (w : Variable). length w.types) v vs)
+
+pub fields_of : (variables : List Variable) (v : ℕ) → field_count (types_of variables) v ≡ components_of variables v
+fields_of [] v = refl
+fields_of (w ∷ ws) zero = refl
+fields_of (w ∷ ws) (suc v) = fields_of ws v
+
+-- the components of a variable are among all
+pub variable_within : (variables : List Variable) (v : ℕ) → first_component (types_of variables) v + components_of variables v ≤ components_in variables
+variable_within variables v = omega (arith, field_count-within (types_of variables) v, fields_of variables v, sum_components variables)
+
+pub component_fits : (m : Module) (number : ℕ) (f : Function) (x : ℕ) → knows_component (scope_in m f) x ≡ true → ComponentFits (version_at m number f) x
+component_fits m number f x h = omega (arith, below x (length (component_types f.variables)) h, same_components f.variables)
+
+pub operand_fits : (m : Module) (number : ℕ) (f : Function) (a : Operand) → knows_operand (scope_in m f) a ≡ true → OperandFits (version_at m number f) a
+operand_fits m number f (Component x) h = component_fits m number f x h
+operand_fits m number f (Literal v) h = tt
+
+pub target_fits : (m : Module) (number : ℕ) (f : Function) (to : Option ℕ) → knows_target (scope_in m f) to ≡ true → TargetFits (version_at m number f) to
+target_fits m number f None h = tt
+target_fits m number f (Some x) h = component_fits m number f x h
+
+-- ---- whole structs
+
+abbrev PairFits : VersionedFunction → Pair → Type 0
+PairFits v p = ComponentFits v p.to × OperandFits v p.from
+
+pairs_fit : (v : VersionedFunction) (to from count : ℕ) → to + count ≤ length v.types → from + count ≤ length v.types → All (PairFits v) (pairs_from to from count)
+pairs_fit v to from zero h l = All-nil (PairFits v)
+pairs_fit v to from (suc n) h l =
+    All-cons (PairFits v) (record { to = to; from = Component from }) (pairs_from (to + 1) (from + 1) n) (omega (arith, h), omega (arith, l))
+    (pairs_fit v (to + 1) (from + 1) n (omega (arith, h)) (omega (arith, l)))
+
+components_fit : (v : VersionedFunction) (first count : ℕ) → first + count ≤ length v.types → All (OperandFits v) (components_from first count)
+components_fit v first zero h = All-nil (OperandFits v)
+components_fit v first (suc n) h =
+    All-cons (OperandFits v) (Component first) (components_from (first + 1) n) (omega (arith, h)) (components_fit v (first + 1) n (omega (arith, h)))
+
+length-pairs_from : (to from count : ℕ) → length (pairs_from to from count) ≡ count
+length-pairs_from to from zero = refl
+length-pairs_from to from (suc n) = ap suc (length-pairs_from (to + 1) (from + 1) n)
+
+pub struct_pairs_fit : (m : Module) (number : ℕ) (f : Function) (to from : ℕ) → components_of f.variables to ≡ components_of f.variables from
+    → All (PairFits (version_at m number f)) (struct_pairs (types_of f.variables) to from)
+struct_pairs_fit m number f to from same =
+    let vs = f.variables in
+    pairs_fit (version_at m number f) (first_component (types_of vs) to) (first_component (types_of vs) from) (field_count (types_of vs) from)
+    (omega (arith, variable_within vs to, fields_of vs from, same, all_components vs)) (omega (arith, variable_within vs from, fields_of vs from, all_components vs))
+
+pub struct_pairs_few : (f : Function) (to from : ℕ) → length (struct_pairs (types_of f.variables) to from) ≤ components_of f.variables from
+struct_pairs_few f to from =
+    let vs = f.variables in
+    omega (arith, length-pairs_from (first_component (types_of vs) to) (first_component (types_of vs) from) (field_count (types_of vs) from), fields_of vs from)
+
+argument_fits : (m : Module) (number : ℕ) (f : Function) (a : Arg) → knows_argument (scope_in m f) a ≡ true → All (OperandFits (version_at m number f)) (operands_of (types_of f.variables) a)
+argument_fits m number f (One a) h = All-cons (OperandFits (version_at m number f)) a [] (operand_fits m number f a h) (All-nil (OperandFits (version_at m number f)))
+argument_fits m number f (Whole v) h =
+    let vs = f.variables in
+    components_fit (version_at m number f) (first_component (types_of vs) v) (field_count (types_of vs) v) (omega (arith, variable_within vs v, fields_of vs v, all_components vs))
+
+all_arguments : (m : Module) (number : ℕ) (f : Function) (args : List Arg) → list_all (knows_argument (scope_in m f)) args ≡ true
+    → All (λ a. All (OperandFits (version_at m number f)) (operands_of (types_of f.variables) a)) args
+all_arguments m number f [] h = All-nil (λ a. All (OperandFits (version_at m number f)) (operands_of (types_of f.variables) a))
+all_arguments m number f (a ∷ args) h =
+    let both = both-true (knows_argument (scope_in m f) a) (list_all (knows_argument (scope_in m f)) args) h in
+    All-cons (λ a. All (OperandFits (version_at m number f)) (operands_of (types_of f.variables) a)) a args (argument_fits m number f a both.0) (all_arguments m number f args both.1)
+
+-- ---- what is picked
+
+at_all : {X : Type 0} (P : X → Type 0) (xs : List X) (k : ℕ) → All P xs → All P (at_place xs k)
+at_all P xs k all = by (slice_get xs k) refl
+  where
+    by : (o : Option _) → slice_get xs k ≡ o → All P (option_map_or (λ x. x ∷ []) o [])
+    by None e = All-nil P
+    by (Some x) e = All-cons P x [] (all_at P xs all k x e) (All-nil P)
+
+picked_all : {X : Type 0} (P : X → Type 0) (xs : List X) (ks : List ℕ) → All P xs → All P (picked xs ks)
+picked_all P xs [] all = All-nil P
+picked_all P xs (k ∷ ks) all = All-append P (at_place xs k) (picked xs ks) (at_all P xs k all) (picked_all P xs ks all)
+
+one_at : {X : Type 0} (o : Option X) → length (option_map_or (λ x. x ∷ []) o []) ≤ 1
+one_at None = omega arith
+one_at (Some x) = omega arith
+
+picked_few : {X : Type 0} (xs : List X) (ks : List ℕ) → length (picked xs ks) ≤ length ks
+picked_few xs [] = omega arith
+picked_few xs (k ∷ ks) = omega (arith, length-append (at_place xs k) (picked xs ks), one_at (slice_get xs k), picked_few xs ks)
+
+pub passed_fit : (m : Module) (number : ℕ) (f : Function) (args : List Arg) (ks : List ℕ) → list_all (knows_argument (scope_in m f)) args ≡ true
+    → All (OperandFits (version_at m number f)) (picked (flat_map (operands_of (types_of f.variables)) args) ks)
+passed_fit m number f args ks h =
+    let P = OperandFits (version_at m number f) in
+    picked_all P (flat_map (operands_of (types_of f.variables)) args) ks (all_flat_map P (operands_of (types_of f.variables)) args (all_arguments m number f args h))
+
+-- ---- the calls before a statement
+
+unfoldable pub calls_before : List Statement → ℕ → ℕ
+calls_before [] i = 0
+calls_before (s ∷ ss) zero = 0
+calls_before (s ∷ ss) (suc i) = calls_in s + calls_before ss i
+
+edges_in : Option Edge → ℕ
+edges_in None = 0
+edges_in (Some e) = 1
+
+calls_are : (f : Function) (place : ℕ) (s : Statement) → calls_in s ≡ edges_in (edge_of f place s)
+unfolding edges_in
+calls_are f place (Call to g args) = refl
+calls_are f place _ = refl
+
+past_one : (o : Option Edge) (rest : List Edge) (c j : ℕ) → c ≡ edges_in o → slice_get (cons_option o rest) (c + j) ≡ slice_get rest j
+unfolding edges_in
+past_one None rest c j e = ap (slice_get rest) (omega (arith, e))
+past_one (Some x) rest c j e = let k : c + j ≡ suc j = omega (arith, e) in ap (slice_get (x ∷ rest)) k
+
+edge_there : (f : Function) (place : ℕ) (ss : List Statement) (i : ℕ) (s : Statement) (e : Edge) → slice_get ss i ≡ Some s → edge_of f (place + i) s ≡ Some e
+    → slice_get (filter_map (λ pair. edge_of f pair.0 pair.1) (enumerate_from place ss)) (calls_before ss i) ≡ Some e
+unfolding calls_before
+edge_there f place [] i s e here is = cc
+edge_there f place (t ∷ ts) zero s e here is =
+    let same : t ≡ s = cc in
+    let at : place ≡ place + 0 = omega arith in
+    let first : edge_of f place t ≡ Some e = ap (edge_of f place) same ∙ ap (λ k. edge_of f k s) at ∙ is in
+    ap (λ o. slice_get (cons_option o (filter_map (λ pair. edge_of f pair.0 pair.1) (enumerate_from (place + 1) ts))) 0) first
+edge_there f place (t ∷ ts) (suc i) s e here is =
+    let rest = filter_map (λ pair. edge_of f pair.0 pair.1) (enumerate_from (place + 1) ts) in
+    let at : place + 1 + i ≡ place + suc i = omega arith in
+    past_one (edge_of f place t) rest (calls_in t) (calls_before ts i) (calls_are f place t)
+    ∙ edge_there f (place + 1) ts i s e here (ap (λ k. edge_of f k s) at ∙ is)
+
+-- the call at a place is that of its number, and all argument components are kept
+pub record IsCallAt (m : Module) (f : Function) (n count : ℕ) : Type 0 where
+  pub inside : n < length (map (λ (c : CallUse). c.symbol) (map (call_use m) (edges_of f)))
+  pub kept : kept_of (map (call_use m) (edges_of f)) n ≡ all_of count
+
+pub call_at : (m : Module) (f : Function) (i : ℕ) (s : Statement) (e : Edge) → slice_get f.body i ≡ Some s → edge_of f (0 + i) s ≡ Some e
+    → IsCallAt m f (calls_before f.body i) (length e.args)
+call_at m f i s e here is =
+    let n = calls_before f.body i in
+    let at = edge_there f 0 f.body i s e here is in
+    let made = map_here (call_use m) (edges_of f) n e at in
+    let symbol = map_here (λ (c : CallUse). c.symbol) (map (call_use m) (edges_of f)) n (call_use m e) made in
+    record {
+      inside = place_inside (map (λ (c : CallUse). c.symbol) (map (call_use m) (edges_of f))) n (call_use m e).symbol symbol;
+      kept = ap (λ o. option_map_or (λ (c : CallUse). c.kept) o []) made;
+    }
+
+pub picked_of_all : {X : Type 0} (xs : List X) (ks : List ℕ) (count : ℕ) → ks ≡ all_of count → length (picked xs ks) ≤ count
+picked_of_all xs ks count is = omega (arith, picked_few xs ks, ap length is, length-range_with_len 0 count)

@@ -1,0 +1,4 @@
+pub mod Known
+pub mod Objects
+pub mod Versions
+pub mod Linking

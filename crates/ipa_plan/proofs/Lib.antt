@@ -1,0 +1,6 @@
+pub mod Naming
+pub mod Listing
+pub mod Living
+pub mod PlanLaws
+pub mod Arguments
+pub mod Plannable

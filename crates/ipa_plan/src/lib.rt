@@ -1,9 +1,14 @@
 //! The plan of a whole program, from summaries alone. `specs/Plans.antt` says what it is: one version of each live function, and the
 //! arrays that are kept. `specs/Laws.antt` says what is known of it, as the layers above use it.
+//!
+//! `plan` has the live functions marked, counts once how many of them stand before each function, and then makes their versions.
 #![tactic(auto)]
 
 mod laws;
+mod numbering;
 mod planning;
+mod symbols;
+mod versions;
 
 pub use laws::planned;
 pub use planning::plan;

@@ -2,13 +2,23 @@
 ghost use Rattle.std.specs.Prelude.{IfOk};
 ghost use Rattle.ipa_plan.specs.Plans.{IsPlanOf, CanBePlanned};
 
+use crate::numbering::Numbering;
+use crate::versions::versions;
+use call_graph::{kept_arrays, live};
 use gimple_ir::{Merged, NoMemory, Plan};
 use std::alloc::Global;
 
-/// The plan of a merged program. It takes time and memory linear in the functions and their calls.
+/// The plan of a merged program. It takes time and memory linear in the summaries and the arrays.
 pub fn plan(alloc: Global, merged: &Merged) -> Result<Plan, NoMemory>
     requires { CanBePlanned merged.now }
     ensures { IfOk result (IsPlanOf merged.now) }
 {
-    Err(NoMemory)
+    let live = live(alloc, merged)?;
+    let arrays = kept_arrays(alloc, merged, &live)?;
+    let numbering = Numbering::new(alloc, live)?;
+    Ok(Plan {
+        versions: versions(alloc, merged, &numbering)?,
+        arrays,
+        code: 1,
+    })
 }

@@ -1,4 +1,4 @@
--- Lists that are made element by element, and the counts of flags.
+-- Lists that are made element by element, and the places that are kept of versions.
 use Rattle.std.proofs.Common.{◌≡◌, ◌<◌, ℕ, zero, suc, ◌+◌, List, [], ◌∷◌, ◌++◌, Bool, true, false, cond, length, map, get_or, take, drop, Some, refl, sym, ap, ap₂, ◌∙◌, arith, append_assoc, drop-cons}
 use Rattle.std.specs.Prelude.{slice_get}
 use Rattle.std.specs.List.{range_with_len, enumerate_from, filter}

@@ -9,7 +9,7 @@ use Rattle.std.proofs.lemmas.Fmt.{decimal_is_IsNumeral, decimal_by_steps, decima
 use Rattle.std.proofs.lemmas.Slice.Eq.{bytes_eq-Decides}
 use Rattle.gimple_ir.specs.Names.{is_among, is_identifier, is_letter, is_digit, begins_with_letter, keywords, repeats, repeats_after}
 use Rattle.func_summary.proofs.Checked.{both-true}
-use Rattle.program_link.specs.Numbers.{symbol_by}
+use Rattle.program_link.specs.Known.{symbol_by}
 
 -- ---- different names
 

@@ -1,5 +1,5 @@
 -- What a call passes has as many components as its target's parameters, and both sides of a struct copy have as many.
-use Rattle.std.proofs.Common.{◌≡◌, ◌+◌, ◌≤◌, ℕ, zero, suc, List, [], ◌∷◌, length, take, true, false, Some, None, refl, ap, arith}
+use Rattle.std.proofs.Common.{◌≡◌, ◌≤◌, ℕ, zero, suc, List, [], ◌∷◌, length, take, true, false, Some, None, refl, ap, arith}
 use Rattle.std.specs.Prelude.{Option, slice_get, nat_eq, sum_by, ◌&&◌}
 use Rattle.std.specs.List.{list_all, zip, flat_map}
 use Rattle.std.specs.Option.{option_map_or}
@@ -18,12 +18,12 @@ use Rattle.gimple_ir.specs.declared.types.Statement.TheVariants.{Call, CopyStruc
 use Rattle.gimple_ir.specs.declared.merged.Merged.{Merged}
 use Rattle.gimple_ir.specs.CodeBound.{components_in, components_of, argument_operands}
 use Rattle.gimple_ir.specs.Lattices.{same_type}
-use Rattle.gimple_ir.specs.Statements.{ByTypes, counts_arguments, types_fit, type_of, is_struct, structs_fit, operand_fits, argument_fits, whole_fits, arguments_fit, result_fits, type_of_call}
+use Rattle.gimple_ir.specs.Statements.{ByTypes, counts_arguments, types_fit, type_of, is_struct, structs_fit, argument_fits, whole_fits, arguments_fit, result_fits, type_of_call}
 use Rattle.gimple_ir.specs.Programs.{scope_of}
 use Rattle.func_summary.specs.Summaries.{field_argument, edge_arguments}
 use Rattle.func_summary.specs.Summarised.{IsSummarised}
 use Rattle.func_summary.proofs.Checked.{both-true}
-use Rattle.program_link.proofs.Facts.{same_number, Facts, facts}
+use Rattle.program_link.proofs.Facts.{same_number, facts}
 
 -- ---- variables of one struct
 

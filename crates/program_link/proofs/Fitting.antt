@@ -1,6 +1,6 @@
 -- The version that a member describes: its numbers name what is there, its frame is small, its code is in its bound.
-use Rattle.std.proofs.Common.{◌≡◌, ◌+◌, ◌*◌, ◌<◌, ◌≤◌, ℕ, suc, List, [], ◌∷◌, length, map, true, refl, ap, ◌∙◌, subst, arith, Some}
-use Rattle.std.specs.Prelude.{All, Option, slice_get, sum_by, nat_lt, is_some}
+use Rattle.std.proofs.Common.{◌≡◌, ◌+◌, ◌*◌, ◌<◌, ◌≤◌, ℕ, suc, List, [], ◌∷◌, length, map, Bool, true, false, refl, ap, ◌∙◌, subst, arith, Some, None}
+use Rattle.std.specs.Prelude.{All, Option, slice_get, sum_by, nat_lt, is_some, if◌then◌else◌}
 use Rattle.std.specs.List.{flat_map, list_all}
 use Rattle.std.proofs.lemmas.List.Elements.{All-nil, All-cons, All-weaker}
 use Rattle.std.proofs.lemmas.List.FromFn.{length-map-range_with_len}
@@ -9,10 +9,13 @@ use Rattle.gimple_ir.specs.declared.types.Arg.{Arg as Passed}
 use Rattle.gimple_ir.specs.declared.types.Case.{Case}
 use Rattle.gimple_ir.specs.declared.types.Function.{Function}
 use Rattle.gimple_ir.specs.declared.types.Program.{Program}
+use Rattle.gimple_ir.specs.declared.types.Operand.{Operand}
 use Rattle.gimple_ir.specs.declared.types.Statement.{Statement}
 use Rattle.gimple_ir.specs.declared.types.Statement.TheVariants.{Nop, Label, Goto, Cond, Switch, ReturnVoid, Return, Copy, Unary, Convert, Binary, Load, Store, CopyStruct, Call, Putchar, Getchar, Exit}
 use Rattle.gimple_ir.specs.declared.lattice.Binding.TheVariants.{Arg}
 use Rattle.gimple_ir.specs.declared.versioned.Pair.{Pair}
+use Rattle.gimple_ir.specs.declared.versioned.Step.TheVariants as steps
+use Rattle.gimple_ir.specs.declared.versioned.VersionedFunction.{VersionedFunction}
 use Rattle.gimple_ir.specs.declared.summary.Edge.{Edge}
 use Rattle.gimple_ir.specs.declared.merged.Merged.{Merged}
 use Rattle.gimple_ir.specs.declared.plan.Plan.{Plan}
@@ -56,6 +59,15 @@ cases_fit f cases h =
     All-weaker (λ (c : Case). nat_lt c.label (length f.labels) ≡ true) (λ (c : Case). c.label < length f.labels) (λ c e. below c.label (length f.labels) e) cases
     (AllPass-from_list_all (λ (c : Case). nat_lt c.label (length f.labels)) cases h)
 
+-- what a result that may be dropped reads
+return_fits : (v : VersionedFunction) (b : Bool) (a : Operand) → OperandFits v a → StepFits v (steps.Return (if b then Some a else None))
+return_fits v true a h = h
+return_fits v false a h = tt
+
+return_reads : (b : Bool) (a : Operand) → step_operands (steps.Return (if b then Some a else None)) ≤ 1
+return_reads true a = omega arith
+return_reads false a = omega arith
+
 fits : (program : Program) (merged : Merged) (plan : Plan) (version : Version) (f : Function) (i : ℕ) (s : Statement) → Stands program merged plan version f i s → StepFits (version_at program merged plan version f) (step_of (member_of program merged plan version f) (calls_before f.body i) s)
 fits program merged plan version f i Nop k = tt
 fits program merged plan version f i (Label l) k = k.labels.stands
@@ -71,7 +83,7 @@ fits program merged plan version f i (Switch a cases otherwise) k =
     let goes = both-true (nat_lt otherwise (length f.labels)) (list_all (λ c. nat_lt c.label (length f.labels)) cases) k.labels.goes in
     (operand_fits program merged plan version f a known.0, cases_fit f cases goes.1, below otherwise (length f.labels) goes.0)
 fits program merged plan version f i ReturnVoid k = tt
-fits program merged plan version f i (Return a) k = operand_fits program merged plan version f a k.knows
+fits program merged plan version f i (Return a) k = return_fits (version_at program merged plan version f) version.result a (operand_fits program merged plan version f a k.knows)
 fits program merged plan version f i (Copy to a) k =
     let known = both-true (knows_component (scope_of program f) to) (knows_operand (scope_of program f) a) k.knows in
     let v = version_at program merged plan version f in
@@ -120,6 +132,7 @@ passes program merged plan version f i (Call to g args) k = omega (arith, call_p
 passes program merged plan version f i _ k = omega arith
 
 reads : (program : Program) (merged : Merged) (plan : Plan) (version : Version) (f : Function) (i : ℕ) (s : Statement) → Stands program merged plan version f i s → step_operands (step_of (member_of program merged plan version f) (calls_before f.body i) s) ≤ operands_in f.variables s
+reads program merged plan version f i (Return a) k = return_reads version.result a
 reads program merged plan version f i (CopyStruct to from) k = struct_pairs_few f to from
 reads program merged plan version f i (Call to g args) k = call_passes program merged plan version f i to g args k
 reads program merged plan version f i _ k = omega arith

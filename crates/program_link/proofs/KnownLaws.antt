@@ -1,5 +1,5 @@
 -- What the parts of a plan name and do not define are names of its image: the stubs, the versions and the arrays.
-use Rattle.std.proofs.Common.{◌≡◌, ℕ, zero, suc, ◌+◌, ◌<◌, Bool, true, false, cond, not, ◌||◌, List, [], ◌∷◌, ◌++◌, length, map, filter, Option, Some, None, refl, sym, ap, ap₂, ◌∙◌, subst, arith}
+use Rattle.std.proofs.Common.{◌≡◌, ℕ, zero, suc, ◌+◌, ◌<◌, Bool, true, false, cond, not, ◌||◌, List, [], ◌∷◌, ◌++◌, length, map, filter, Option, Some, refl, sym, ap, ap₂, ◌∙◌, subst, arith}
 use Rattle.std.specs.Prelude.{All, nat_eq, slice_get, unwrap_or, codes}
 use Rattle.std.specs.List.{AllByRecursion, list_any, fold}
 use Rattle.std.specs.Option.{option_map_or}
@@ -11,7 +11,6 @@ use Rattle.std.proofs.lemmas.Slice.Eq.{bytes_eq-Decides}
 use Rattle.elf_container.specs.declared.relocatable.RelocObject.{RelocObject}
 use Rattle.gimple_ir.specs.declared.types.Function.{Function}
 use Rattle.gimple_ir.specs.declared.types.Program.{Program}
-use Rattle.gimple_ir.specs.declared.summary.Edge.{Edge}
 use Rattle.gimple_ir.specs.declared.unit.ArrayUse.{ArrayUse}
 use Rattle.gimple_ir.specs.declared.merged.Merged.{Merged}
 use Rattle.gimple_ir.specs.declared.plan.CallPlan.{CallPlan}
@@ -140,11 +139,11 @@ symbol_named merged plan place v here =
 -- where a number stands
 number_at : (k : ℕ) (ns : List ℕ) → list_any (nat_eq k) ns ≡ true → (i : ℕ) × (slice_get ns i ≡ Some k)
 number_at k [] h = cc
-number_at k (n ∷ ns) h = by (nat_eq k n) refl h
+number_at k (n ∷ ns) h = by (nat_eq k n) refl h (number_at k ns)
   where
-    by : (b : Bool) → nat_eq k n ≡ b → (b || list_any (nat_eq k) ns) ≡ true → (i : ℕ) × (slice_get (n ∷ ns) i ≡ Some k)
-    by true same either = (0, ap (λ (j : ℕ). Some j) (sym (same_number k n same)))
-    by false same either = let later = number_at k ns either in (suc later.0, later.1)
+    by : (b : Bool) → nat_eq k n ≡ b → (b || list_any (nat_eq k) ns) ≡ true → (list_any (nat_eq k) ns ≡ true → (i : ℕ) × (slice_get ns i ≡ Some k)) → (i : ℕ) × (slice_get (n ∷ ns) i ≡ Some k)
+    by true same either rest = (0, ap (λ (j : ℕ). Some j) (sym (same_number k n same)))
+    by false same either rest = let later = rest either in (suc later.0, later.1)
 
 -- the symbol of a kept array
 kept_named : (merged : Merged) (kept : List ℕ) (k : ℕ) → list_any (nat_eq k) kept ≡ true → is_among (map (array_symbol merged) (arrays_in_order merged kept)) (array_symbol merged k) ≡ true

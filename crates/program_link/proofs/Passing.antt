@@ -43,7 +43,7 @@ use Rattle.program_link.proofs.VersionFacts.{found_at, VersionFacts}
 
 -- ---- components
 
-abbrev pub version_at : Module → ℕ → Function → VersionedFunction
+abbrev pub version_at : Program → Merged → Plan → Version → Function → VersionedFunction
 version_at program merged plan version f = versioned_of (member_of program merged plan version f)
 
 abbrev pub types_of : List Variable → List (List ScalarType)

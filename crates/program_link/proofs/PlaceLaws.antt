@@ -1,7 +1,7 @@
 -- The objects of a plan's versions can be placed: no two symbols are alike, each version is defined once, and the text is short.
-use Rattle.std.proofs.Common.{◌≡◌, ℕ, zero, suc, ◌+◌, ◌*◌, ◌^◌, ◌<◌, ◌≤◌, Bool, true, false, cond, not, List, [], ◌∷◌, ◌++◌, length, map, filter, Option, Some, None, refl, sym, ap, ap₂, ◌∙◌, subst, arith}
+use Rattle.std.proofs.Common.{◌≡◌, ℕ, zero, suc, ◌+◌, ◌^◌, ◌<◌, ◌≤◌, Bool, true, false, cond, not, List, [], ◌∷◌, ◌++◌, length, map, filter, Some, None, refl, sym, ap, ◌∙◌, subst, arith}
 use Rattle.std.specs.Prelude.{All, slice_get, sum_by, codes}
-use Rattle.std.specs.List.{AllByRecursion, range_with_len}
+use Rattle.std.specs.List.{AllByRecursion}
 use Rattle.std.specs.Option.{option_map_or}
 use Rattle.std.specs.Str.{bytes_eq}
 use Rattle.std.proofs.lemmas.List.{length-map}
@@ -10,7 +10,6 @@ use Rattle.std.proofs.lemmas.List.Sums.{sum_by-cons}
 use Rattle.std.proofs.lemmas.Slice.Eq.{bytes_eq-Decides}
 use Rattle.elf_container.specs.declared.relocatable.RelocObject.{RelocObject}
 use Rattle.elf_container.specs.Relocatable.{IsObject, ObjectFits}
-use Rattle.gimple_ir.specs.declared.types.Array.{Array}
 use Rattle.gimple_ir.specs.declared.types.Function.{Function}
 use Rattle.gimple_ir.specs.declared.types.Program.{Program}
 use Rattle.gimple_ir.specs.declared.merged.Merged.{Merged}
@@ -41,11 +40,11 @@ use Rattle.program_link.specs.Known.{symbol_by, IsPart}
 use Rattle.program_link.specs.Versions.{member_of, version_in, functions_of}
 use Rattle.program_link.specs.Objects.{object_of}
 use Rattle.program_link.specs.Linking.{limits_of, first_passed, code_sum}
-use Rattle.program_link.proofs.VersionFacts.{VersionFacts, version_facts, version_has, versions_have}
+use Rattle.program_link.proofs.VersionFacts.{version_facts, version_has, versions_have}
 use Rattle.program_link.proofs.Fitting.{version_fits, version_bound}
 use Rattle.program_link.proofs.PartFrame.{has_frame, frame_is}
 use Rattle.program_link.proofs.PlanLaws.{main_stands, items_all, arrays_defined, limits_kept, same_symbols}
-use Rattle.program_link.proofs.KnownLaws.{image_names, names_are, names_known}
+use Rattle.program_link.proofs.KnownLaws.{names_are, names_known}
 use Rattle.program_link.proofs.DirectLaws.{entries_from, entry_at, members_are, words_same, all_stand, ends_same}
 use Rattle.program_link.proofs.Summing.{Climbs, climbing, some_of_all}
 use Rattle.program_link.proofs.SymbolLaws.{Apart, apart_once, apart_append, functions_differ, arrays_differ, kinds_differ, stubs_differ, putchar_no_function, getchar_no_function, putchar_no_array, getchar_no_array}

@@ -30,7 +30,8 @@ pub small_sum : {X : Type 0} (g : X → ℕ) (xs : List X) (i : ℕ) → All (λ
 small_sum g xs i small = sum_by-le g 1073741824 (take i xs) (All-take (λ x. g x ≤ 1073741824) i xs small)
 
 few_taken : {X : Type 0} (xs : List X) (i : ℕ) → length (take i xs) ≤ i
-few_taken [] i = omega arith
+few_taken [] zero = omega arith
+few_taken [] (suc i) = omega arith
 few_taken (x ∷ xs) zero = omega arith
 few_taken (x ∷ xs) (suc i) = omega (arith, few_taken xs i)
 
@@ -99,20 +100,22 @@ pub some_sum : (w : ℕ → ℕ) (start count : ℕ) (ns : List ℕ) → Climbs 
 unfolding Climbs
 some_sum w start count [] climb within = omega arith
 some_sum w start zero (n ∷ ns) climb within = absurd (omega (arith, climb.0, All-head (λ k. k < start + 0) n ns within))
-some_sum w start (suc count) (n ∷ ns) climb within = by (nat_eq n start) refl
+some_sum w start (suc count) (n ∷ ns) climb within = by (nat_eq n start) refl (λ ks. some_sum w (start + 1) count ks)
   where
     next : start + suc count ≡ start + 1 + count
     next = omega arith
 
-    by : (b : Bool) → nat_eq n start ≡ b → sum_by w (n ∷ ns) ≤ sum_by w (range_with_len start (suc count))
-    by true e =
+    by : (b : Bool) → nat_eq n start ≡ b
+        → ((ks : List ℕ) → Climbs (start + 1) ks → All (λ k. k < start + 1 + count) ks → sum_by w ks ≤ sum_by w (range_with_len (start + 1) count))
+        → sum_by w (n ∷ ns) ≤ sum_by w (range_with_len start (suc count))
+    by true e rest =
         let same : n ≡ start = grind (arith, nat_tests) in
-        let rest = some_sum w (start + 1) count ns (subst (λ (k : ℕ). Climbs (k + 1) ns) same climb.1) (subst (λ (k : ℕ). All (λ x. x < k) ns) next (All-tail (λ k. k < start + suc count) n ns within)) in
-        omega (arith, rest, ap w same, sum_by-cons w n ns, sum_by-cons w start (range_with_len (start + 1) count))
-    by false e =
+        let later = rest ns (subst (λ (k : ℕ). Climbs (k + 1) ns) same climb.1) (subst (λ (k : ℕ). All (λ x. x < k) ns) next (All-tail (λ k. k < start + suc count) n ns within)) in
+        omega (arith, later, ap w same, sum_by-cons w n ns, sum_by-cons w start (range_with_len (start + 1) count))
+    by false e rest =
         let above : start + 1 ≤ n = grind (arith, nat_tests, climb.0) in
-        let rest = some_sum w (start + 1) count (n ∷ ns) (above, climb.1) (subst (λ (k : ℕ). All (λ x. x < k) (n ∷ ns)) next within) in
-        omega (arith, rest, sum_by-cons w start (range_with_len (start + 1) count))
+        let later = rest (n ∷ ns) (above, climb.1) (subst (λ (k : ℕ). All (λ x. x < k) (n ∷ ns)) next within) in
+        omega (arith, later, sum_by-cons w start (range_with_len (start + 1) count))
 
 by_places : {X : Type 0} (g : X → ℕ) (w : ℕ → ℕ) (start : ℕ) (xs : List X) → ((i : ℕ) (x : X) → slice_get xs i ≡ Some x → w (start + i) ≡ g x)
     → sum_by w (range_with_len start (length xs)) ≡ sum_by g xs

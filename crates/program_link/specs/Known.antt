@@ -1,5 +1,5 @@
 -- What the code keeps of a program while it is linked.
-use Rattle.std.specs.Prelude.{◌≡◌, ◌<◌, ◌≤◌, ◌^◌, ◌++◌, ℕ, List, length, map, All, codes, decimal}
+use Rattle.std.specs.Prelude.{◌<◌, ◌≤◌, ◌^◌, ◌++◌, ℕ, List, length, map, All, decimal}
 use Rattle.std.specs.List.{range_with_len}
 use Rattle.elf_container.specs.declared.relocatable.RelocObject.{RelocObject}
 use Rattle.elf_container.specs.Relocatable.{IsObject, ObjectFits}

@@ -59,11 +59,7 @@ fn image_of(alloc: Global, program: &Program, merged: &Merged) -> Result<Vec<u8>
 /// | Fault | Comes |
 /// |---|---|
 /// | `Limit` | the program has too many functions, too much code or too large arrays; all count, and these are looked for in this order |
-pub fn link_program(
-    alloc: Global,
-    program: &Program,
-    merged: &Merged,
-) -> Result<Vec<u8>, LinkError>
+pub fn link_program(alloc: Global, program: &Program, merged: &Merged) -> Result<Vec<u8>, LinkError>
     requires { IsSummarised program.now merged.now }
     ensures { Links program.now merged.now result }
 {

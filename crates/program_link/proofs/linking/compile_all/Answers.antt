@@ -1,4 +1,4 @@
-use Rattle.std.proofs.Common.{◌≡◌, ◌<◌, ◌≤◌, length, map, take, get_or, sym, ap, ◌∙◌, subst, arith}
+use Rattle.std.proofs.Common.{◌<◌, ◌≤◌, length, map, get_or, sym, ap, ◌∙◌, subst, arith}
 use Rattle.std.specs.Prelude.{All}
 use Rattle.std.proofs.lemmas.List.{take_all}
 use Rattle.std.proofs.lemmas.List.Elements.{All-push}
@@ -12,11 +12,11 @@ use Rattle.program_link.proofs.Listing.{mapped_more}
 use Rattle.program_link.proofs.LinkLaws.{is_numbered, objects_are}
 use Rattle.program_link.proofs.linking.compile_all.Goals as goal
 
-pub array_symbols-symbols-requires : goal.array_symbols-symbols-requires
-array_symbols-symbols-requires c = is_numbered c.args.program.now c.args.merged.now c.requires.summarised
+pub array_symbols-requires : goal.array_symbols-requires
+array_symbols-requires c = is_numbered c.args.program.now c.args.merged.now c.requires.summarised
 
-pub member-member-requires-clause-version : goal.member-member-requires-clause-version
-member-member-requires-clause-version c =
+pub member-requires-clause-version : goal.member-requires-clause-version
+member-requires-clause-version c =
     let plan = c.args.plan.now in
     let i = c.loop-version.version-index in
     let item = c.version-item.result in

@@ -1,21 +1,20 @@
-use Rattle.std.proofs.Common.{◌≡◌, ◌∙◌, List, map, ap, subst, sym}
+use Rattle.std.proofs.Common.{◌∙◌, List, ap, subst, sym}
 use Rattle.std.specs.Prelude.{All}
 use Rattle.elf_container.specs.declared.relocatable.RelocObject.{RelocObject}
 use Rattle.final_link.specs.Placing.{IsPlaceable, placed_image}
 use Rattle.program_link.specs.Known.{IsPart}
 use Rattle.program_link.specs.Versions.{functions_of}
-use Rattle.program_link.specs.Objects.{object_of}
 use Rattle.program_link.proofs.DirectLaws.{placed_is_direct}
 use Rattle.program_link.proofs.PlanLaws.{same_symbols}
 use Rattle.program_link.proofs.PlaceLaws.{framed, placeable}
 use Rattle.program_link.proofs.LinkLaws.{image_is}
 use Rattle.program_link.proofs.linking.image_of.Goals as goal
 
-pub plan-plan-requires : goal.plan-plan-requires
-plan-plan-requires c = c.planned.ensures.summarised c.args.program.now c.args.merged.now c.requires.summarised
+pub plan-requires : goal.plan-requires
+plan-requires c = c.planned.ensures.summarised c.args.program.now c.args.merged.now c.requires.summarised
 
-pub compile_all-parts-requires-clause-planned : goal.compile_all-parts-requires-clause-planned
-compile_all-parts-requires-clause-planned c =
+pub compile_all-requires-clause-planned : goal.compile_all-requires-clause-planned
+compile_all-requires-clause-planned c =
     let can = c.planned.ensures.summarised c.args.program.now c.args.merged.now c.requires.summarised in
     c.planned.ensures.plan c.args.merged.now c.in_ok-plan.plan can c.in_ok-plan.ensures
 

@@ -1,4 +1,3 @@
-use Rattle.std.proofs.Common.{sym}
 use Rattle.program_link.proofs.LinkLaws.{is_bounded}
 use Rattle.program_link.proofs.linking.link_program.Goals as goal
 

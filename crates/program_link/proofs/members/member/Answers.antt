@@ -1,4 +1,4 @@
-use Rattle.std.proofs.Common.{◌≡◌, ◌<◌, length, map, sym, ap, ◌∙◌, subst, arith}
+use Rattle.std.proofs.Common.{◌<◌, length, map, sym, ap, ◌∙◌, subst, arith}
 use Rattle.std.specs.Prelude.{All}
 use Rattle.gimple_ir.specs.declared.types.Variable.{Variable}
 use Rattle.gimple_ir.specs.declared.plan.CallPlan.{CallPlan}
@@ -59,7 +59,7 @@ returns-clause-value c =
     let arrays = c.in_ok-arrays.ensures ∙ ap (map (array_use merged)) (c.as_slice-2.ensures ∙ ap (λ (s : Summary). s.arrays) tells.summary) in
     let calls = c.in_ok-calls.ensures ∙ ap (map (call_use plan)) c.as_slice-3.ensures in
     let body = c.in_ok-body.ensures ∙ c.as_slice-4.ensures in
-    member_made p merged plan version f _ _ _ _ _ _ _ _ c.in_ok-copy.ensures variables c.in_ok-copy-2.ensures known.result c.len-labels.ensures arrays calls body
+    member_made p merged plan version f _ _ _ _ _ _ _ c.in_ok-copy.ensures variables c.in_ok-copy-2.ensures c.len-labels.ensures arrays calls body
     ∙ member_at p merged plan version f known.is
 
 pub returns-clause-member : goal.returns-clause-member
@@ -75,7 +75,7 @@ returns-clause-member c =
     let arrays = c.in_ok-arrays.ensures ∙ ap (map (array_use merged)) (c.as_slice-2.ensures ∙ ap (λ (s : Summary). s.arrays) tells.summary) in
     let calls = c.in_ok-calls.ensures ∙ ap (map (call_use plan)) c.as_slice-3.ensures in
     let body = c.in_ok-body.ensures ∙ c.as_slice-4.ensures in
-    let made = member_made p merged plan version f _ _ _ _ _ _ _ _ c.in_ok-copy.ensures variables c.in_ok-copy-2.ensures known.result c.len-labels.ensures arrays calls body in
+    let made = member_made p merged plan version f _ _ _ _ _ _ _ c.in_ok-copy.ensures variables c.in_ok-copy-2.ensures c.len-labels.ensures arrays calls body in
     subst IsMember (sym made) (member_fits p merged plan version f c.requires.summarised known)
 
 pub returns-clause-versioned : goal.returns-clause-versioned
@@ -91,5 +91,5 @@ returns-clause-versioned c =
     let arrays = c.in_ok-arrays.ensures ∙ ap (map (array_use merged)) (c.as_slice-2.ensures ∙ ap (λ (s : Summary). s.arrays) tells.summary) in
     let calls = c.in_ok-calls.ensures ∙ ap (map (call_use plan)) c.as_slice-3.ensures in
     let body = c.in_ok-body.ensures ∙ c.as_slice-4.ensures in
-    let made = member_made p merged plan version f _ _ _ _ _ _ _ _ c.in_ok-copy.ensures variables c.in_ok-copy-2.ensures known.result c.len-labels.ensures arrays calls body in
+    let made = member_made p merged plan version f _ _ _ _ _ _ _ c.in_ok-copy.ensures variables c.in_ok-copy-2.ensures c.len-labels.ensures arrays calls body in
     subst (λ (t : Member). IsVersioned (versioned_of t)) (sym made) (version_fits p merged plan version f c.requires.summarised known)

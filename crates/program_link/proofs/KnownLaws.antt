@@ -84,7 +84,7 @@ pub places_names : {X : Type 0} (name : X → List ℕ) (size : X → ℕ) (at :
 places_names name size at [] = refl
 places_names name size at (x ∷ xs) = ap (λ (names : List (List ℕ)). name x ∷ names) (places_names name size (at + size x) xs)
 
-abbrev stub_names : List (List ℕ)
+abbrev pub stub_names : List (List ℕ)
 stub_names = codes "__builtin_putchar" ∷ codes "__builtin_getchar" ∷ []
 
 abbrev version_names : Plan → List (List ℕ)

@@ -18,3 +18,4 @@ pub mod SymbolLaws
 pub mod KnownLaws
 pub mod PlaceLaws
 pub mod LinkLaws
+pub mod VersionLaws

@@ -1,12 +1,12 @@
 -- The image of parts, each the object of one function, is the image with no relocation in it.
-use Rattle.std.proofs.Common.{◌≡◌, ℕ, zero, suc, ◌+◌, ◌-◌, ◌*◌, ◌/◌, ◌%◌, ◌<◌, ◌≤◌, Bool, true, false, cond, List, [], ◌∷◌, ◌++◌, length, map, filter, take, drop, Option, Some, None, refl, sym, ap, ap₂, ◌∙◌, subst, arith, append_assoc, eqb-true, leb-true, ltb-true}
-use Rattle.std.specs.Prelude.{All, not, nat_le, nat_lt, ◌==◌, ◌&&◌, slice_get, unwrap_or, max, count_by}
-use Rattle.std.specs.List.{AllByRecursion, flat_map, fold, position_or_len}
+use Rattle.std.proofs.Common.{◌≡◌, ℕ, zero, suc, ◌+◌, ◌-◌, ◌*◌, ◌/◌, ◌%◌, ◌<◌, ◌≤◌, Bool, true, false, cond, List, [], ◌∷◌, ◌++◌, length, map, filter, take, Option, Some, None, refl, sym, ap, ap₂, ◌∙◌, subst, arith, append_assoc, eqb-true, ltb-true}
+use Rattle.std.specs.Prelude.{not, nat_le, nat_lt, ◌==◌, ◌&&◌, slice_get, unwrap_or, max, count_by}
+use Rattle.std.specs.List.{AllByRecursion, flat_map, fold}
 use Rattle.std.specs.Option.{option_map_or}
 use Rattle.std.specs.Str.{bytes_eq}
-use Rattle.std.proofs.lemmas.Bool.{and_parts, le-leb, lt-ltb}
+use Rattle.std.proofs.lemmas.Bool.{and_parts}
 use Rattle.std.proofs.lemmas.Bool.Decides.{nat_tests}
-use Rattle.std.proofs.lemmas.List.{take_all, length-map, append-nil}
+use Rattle.std.proofs.lemmas.List.{take_all, length-map}
 use Rattle.std.proofs.lemmas.Grind.{flat_map-append}
 use Rattle.std.proofs.lemmas.Slice.Eq.{bytes_eq-Decides}
 use Rattle.std.proofs.lemmas.List.Elements.{recursion_from_All}
@@ -15,7 +15,7 @@ use Rattle.rv64_isa.specs.Words.{word_of}
 use Rattle.elf_container.specs.declared.relocatable.RelocObject.{RelocObject}
 use Rattle.elf_container.specs.declared.relocatable.RelSymbol.{RelSymbol}
 use Rattle.elf_container.specs.declared.relocatable.Reloc.{Reloc}
-use Rattle.elf_container.specs.Relocatable.{IsObject, fills, fills_by, reach, relocs_from, after, named_in_order, is_defined}
+use Rattle.elf_container.specs.Relocatable.{IsObject, fills, fills_by, reach, relocs_from, named_in_order, is_defined}
 use Rattle.gimple_ir.specs.declared.merged.Merged.{Merged}
 use Rattle.gimple_ir.specs.declared.plan.Plan.{Plan}
 use Rattle.gimple_ir.specs.declared.plan.Version.{Version}
@@ -31,12 +31,11 @@ use Rattle.final_link.specs.Stubs.{functions_address}
 use Rattle.final_link.specs.Image.{word, word_bytes, code_bytes, image_with}
 use Rattle.final_link.specs.Names.{of_name, value_of}
 use Rattle.final_link.specs.Arrays.{size_of, bytes_of, stored_arrays, zeroed_arrays}
-use Rattle.final_link.specs.Members.{members_in, members_from, member_in, version_size, symbols_in, relocations_in, member_words, member_relocations, lies_in, counted_from, frame_size, version_frame, largest_frame}
-use Rattle.final_link.specs.Symbols.{end_of, code_end, places_of, stub_symbols, version_symbols, array_symbols, symbols_of, address_in}
+use Rattle.final_link.specs.Members.{members_in, members_from, member_in, version_size, symbols_in, member_words, member_relocations, lies_in, counted_from, frame_size, version_frame, largest_frame}
+use Rattle.final_link.specs.Symbols.{end_of, places_of, stub_symbols, array_symbols, symbols_of, address_in}
 use Rattle.final_link.specs.Filling.{filled}
 use Rattle.final_link.specs.Placing.{placed_words, code_from, main_address, placed_image, IsPlaceable}
 use Rattle.follow_laws.specs.Direct.{code_size, direct_symbols, address_of, direct_code, direct_image}
-use Rattle.follow_laws.specs.Direct as direct
 use Rattle.follow_laws.specs.Patched.{NamesHaveAddresses, PatchedIsDirect}
 use Rattle.program_link.specs.Objects.{own_symbol, other_symbol, other_names, object_names, object_of}
 

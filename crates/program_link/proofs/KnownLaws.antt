@@ -1,31 +1,27 @@
--- What the parts of a whole program name and do not define are names of its image: the stubs, the versions and the arrays.
-use Rattle.std.proofs.Common.{◌≡◌, ℕ, zero, suc, ◌+◌, ◌<◌, Bool, true, false, cond, not, ◌||◌, List, [], ◌∷◌, ◌++◌, length, map, filter, Option, Some, None, refl, sym, ap, ap₂, ◌∙◌, subst, arith}
+-- What the parts of a plan name and do not define are names of its image: the stubs, the versions and the arrays.
+use Rattle.std.proofs.Common.{◌≡◌, ℕ, zero, suc, ◌+◌, ◌<◌, Bool, true, false, cond, not, ◌||◌, List, [], ◌∷◌, ◌++◌, length, map, filter, Option, Some, refl, sym, ap, ap₂, ◌∙◌, subst, arith}
 use Rattle.std.specs.Prelude.{All, nat_eq, slice_get, unwrap_or, codes}
-use Rattle.std.specs.List.{AllByRecursion, list_all, list_any, flat_map, filter_map, cons_option, fold, enumerate_from, range_with_len}
+use Rattle.std.specs.List.{AllByRecursion, list_any, fold}
 use Rattle.std.specs.Option.{option_map_or}
 use Rattle.std.specs.Str.{bytes_eq}
-use Rattle.std.proofs.lemmas.List.{length-map, map-append}
-use Rattle.std.proofs.lemmas.List.Elements.{All-nil, All-cons}
+use Rattle.std.proofs.lemmas.List.{map-append}
+use Rattle.std.proofs.lemmas.List.Elements.{All-nil, All-cons, recursion_from_All}
 use Rattle.std.proofs.lemmas.List.Folds.{list_any-append}
 use Rattle.std.proofs.lemmas.Slice.Eq.{bytes_eq-Decides}
 use Rattle.elf_container.specs.declared.relocatable.RelocObject.{RelocObject}
-use Rattle.gimple_ir.specs.declared.types.Array.{Array}
 use Rattle.gimple_ir.specs.declared.types.Function.{Function}
-use Rattle.gimple_ir.specs.declared.types.Module.{Module}
-use Rattle.gimple_ir.specs.declared.types.Statement.{Statement}
-use Rattle.gimple_ir.specs.declared.types.Statement.TheVariants.{Load, Store, Call}
-use Rattle.gimple_ir.specs.declared.summary.Edge.{Edge}
+use Rattle.gimple_ir.specs.declared.types.Program.{Program}
 use Rattle.gimple_ir.specs.declared.unit.ArrayUse.{ArrayUse}
 use Rattle.gimple_ir.specs.declared.merged.Merged.{Merged}
-use Rattle.gimple_ir.specs.declared.merged.MergedArray.{MergedArray}
+use Rattle.gimple_ir.specs.declared.plan.CallPlan.{CallPlan}
+use Rattle.gimple_ir.specs.declared.plan.Plan.{Plan}
 use Rattle.gimple_ir.specs.declared.plan.Version.{Version}
 use Rattle.gimple_ir.specs.declared.versioned.VersionedFunction.{VersionedFunction}
 use Rattle.gimple_ir.specs.Names.{is_among}
-use Rattle.gimple_ir.specs.Statements.{knows, knows_component, knows_operand, knows_argument, knows_target, knows_array, knows_function}
-use Rattle.gimple_ir.specs.Checks.{is_extern, scope_in}
-use Rattle.gimple_ir.specs.Programs.{IsChecked}
-use Rattle.func_summary.specs.Summaries.{arrays_in, arrays_of, edge_of, edges_of}
-use Rattle.func_summary.proofs.Checked.{below}
+use Rattle.func_summary.specs.Summaries.{arrays_of, edges_of}
+use Rattle.func_summary.specs.Summarised.{module_of, IsSummarised}
+use Rattle.func_summary.proofs.Checked.{place_inside}
+use Rattle.ipa_plan.specs.Laws.{IsPlanned}
 use Rattle.ipa_transform.specs.Versioned.{versioned_of}
 use Rattle.rv64_select.specs.declared.item.Symbol.{Symbol}
 use Rattle.rv64_select.specs.declared.item.Symbol.TheVariants as symbols
@@ -35,20 +31,17 @@ use Rattle.rv64_select.specs.Code.{symbol_name}
 use Rattle.rv64_select.specs.Selected.{with_name, with_reference, references, names_of_code}
 use Rattle.rv64_select.specs.Versioned.{SymbolFits, IsVersioned}
 use Rattle.rv64_select.proofs.Fits.{assembly_fits, references_fit}
-use Rattle.final_link.specs.Arrays.{size_of, is_zeroed}
-use Rattle.final_link.specs.Arrays.{array_symbol as merged_symbol}
+use Rattle.final_link.specs.Arrays.{size_of, is_zeroed, array_symbol}
 use Rattle.final_link.specs.Image.{round_up}
 use Rattle.final_link.specs.Stubs.{functions_address}
 use Rattle.final_link.specs.Members.{members_from, version_size}
-use Rattle.final_link.specs.Symbols.{places_of, version_symbols, code_end, arrays_in_order, symbols_of}
-use Rattle.final_link.specs.Symbols.{array_symbols as merged_symbols}
+use Rattle.final_link.specs.Symbols.{places_of, version_symbols, code_end, arrays_in_order, array_symbols, symbols_of}
 use Rattle.final_link.specs.Placing.{IsKnown, names_of}
-use Rattle.program_link.specs.Numbers.{is_body, is_storage, symbol_by, symbols_from, function_symbol, array_symbol, storage_of}
-use Rattle.program_link.specs.Lowering.{all_of, version_of, versions_of, plan_of, merged_array, merged_of, array_use, call_use, member_of, functions_of}
+use Rattle.program_link.specs.Versions.{array_use, symbol_at, call_use, member_of, functions_of}
 use Rattle.program_link.specs.Objects.{own_symbol, other_symbol, others, other_names, object_of}
-use Rattle.program_link.specs.Linking.{is_declared_function, is_declared_array, names_declaration, is_open}
-use Rattle.program_link.proofs.Facts.{three_true, same_number, facts}
+use Rattle.program_link.proofs.Facts.{same_number}
 use Rattle.program_link.proofs.Fitting.{version_fits}
+use Rattle.program_link.proofs.VersionFacts.{IsAt, found_at, VersionFacts, versions_have}
 
 -- ---- names among others
 
@@ -87,274 +80,120 @@ picked_among g p (y ∷ ys) (suc k) x here passes = by (p y) (picked_among g p y
 
 -- ---- the names of the image
 
-places_names : {X : Type 0} (name : X → List ℕ) (size : X → ℕ) (at : ℕ) (xs : List X) → map (λ e. e.0) (places_of name size at xs) ≡ map name xs
+pub places_names : {X : Type 0} (name : X → List ℕ) (size : X → ℕ) (at : ℕ) (xs : List X) → map (λ e. e.0) (places_of name size at xs) ≡ map name xs
 places_names name size at [] = refl
 places_names name size at (x ∷ xs) = ap (λ (names : List (List ℕ)). name x ∷ names) (places_names name size (at + size x) xs)
 
-abbrev stub_names : List (List ℕ)
+abbrev pub stub_names : List (List ℕ)
 stub_names = codes "__builtin_putchar" ∷ codes "__builtin_getchar" ∷ []
 
-abbrev version_names : Module → List (List ℕ)
-version_names m = map (λ v. v.symbol) (versions_of m)
+abbrev version_names : Plan → List (List ℕ)
+version_names plan = map (λ v. v.symbol) plan.versions
 
-abbrev array_names : Module → ℕ → List (List ℕ)
-array_names m main = map (merged_symbol (merged_of m main)) (arrays_in_order (merged_of m main) (plan_of m).arrays)
+abbrev array_names : Merged → Plan → List (List ℕ)
+array_names merged plan = map (array_symbol merged) (arrays_in_order merged plan.arrays)
 
-abbrev image_names : Module → ℕ → List (List ℕ)
-image_names m main = stub_names ++ (version_names m ++ array_names m main)
+abbrev pub image_names : Merged → Plan → List (List ℕ)
+image_names merged plan = stub_names ++ (version_names plan ++ array_names merged plan)
 
-abbrev Named : Module → ℕ → List ℕ → Type 0
-Named m main name = is_among (image_names m main) name ≡ true
+abbrev Named : Merged → Plan → List ℕ → Type 0
+Named merged plan name = is_among (image_names merged plan) name ≡ true
 
-names_are : (m : Module) (main : ℕ) (parts : List RelocObject) → names_of (plan_of m) (merged_of m main) parts ≡ image_names m main
+pub names_are : (merged : Merged) (plan : Plan) (parts : List RelocObject) → names_of plan merged parts ≡ image_names merged plan
 unfolding symbols_of
-names_are m main parts =
+names_are merged plan parts =
     let first = λ (e : List ℕ × ℕ). e.0 in
     let members = members_from 0 parts in
-    let merged = merged_of m main in
-    let kept = (plan_of m).arrays in
-    let versions = version_symbols members (versions_of m) in
-    let arrays = merged_symbols merged kept (code_end members (versions_of m)) in
+    let kept = plan.arrays in
+    let versions = version_symbols members plan.versions in
+    let arrays = array_symbols merged kept (code_end members plan.versions) in
     ap (λ (names : List (List ℕ)). stub_names ++ names)
     (map-append first versions arrays
-    ∙ ap₂ (λ (a b : List (List ℕ)). a ++ b) (places_names (λ (v : Version). v.symbol) (version_size members) functions_address (versions_of m))
-    (places_names (merged_symbol merged) (size_of merged) (round_up 4096 (code_end members (versions_of m))) (arrays_in_order merged kept)))
+    ∙ ap₂ (λ (a b : List (List ℕ)). a ++ b) (places_names (λ (v : Version). v.symbol) (version_size members) functions_address plan.versions)
+    (places_names (array_symbol merged) (size_of merged) (round_up 4096 (code_end members plan.versions)) (arrays_in_order merged kept)))
 
-putchar_named : (m : Module) (main : ℕ) → Named m main (codes "__builtin_putchar")
-putchar_named m main = first_among (codes "__builtin_putchar") (codes "__builtin_getchar" ∷ (version_names m ++ array_names m main))
+putchar_named : (merged : Merged) (plan : Plan) → Named merged plan (codes "__builtin_putchar")
+putchar_named merged plan = first_among (codes "__builtin_putchar") (codes "__builtin_getchar" ∷ (version_names plan ++ array_names merged plan))
 
-getchar_named : (m : Module) (main : ℕ) → Named m main (codes "__builtin_getchar")
-getchar_named m main =
-    later_among (codes "__builtin_getchar") (codes "__builtin_putchar") (codes "__builtin_getchar" ∷ (version_names m ++ array_names m main))
-    (first_among (codes "__builtin_getchar") (version_names m ++ array_names m main))
+getchar_named : (merged : Merged) (plan : Plan) → Named merged plan (codes "__builtin_getchar")
+getchar_named merged plan =
+    later_among (codes "__builtin_getchar") (codes "__builtin_putchar") (codes "__builtin_getchar" ∷ (version_names plan ++ array_names merged plan))
+    (first_among (codes "__builtin_getchar") (version_names plan ++ array_names merged plan))
 
--- ---- items that are defined
+-- ---- versions and kept arrays
 
-some_there : {X : Type 0} (xs : List X) (k : ℕ) → k < length xs → slice_get xs k ≡ None → ⊥
-some_there [] k lt e = omega (arith, lt)
-some_there (x ∷ xs) zero lt e = cc
-some_there (x ∷ xs) (suc k) lt e = some_there xs k (omega (arith, lt)) e
+version_among : (vs : List Version) (k : ℕ) (v : Version) → slice_get vs k ≡ Some v → is_among (map (λ v. v.symbol) vs) v.symbol ≡ true
+version_among [] k v here = cc
+version_among (w ∷ vs) zero v here =
+    let same : w ≡ v = cc in
+    ap (λ (x : Version). is_among (map (λ (v : Version). v.symbol) (x ∷ vs)) v.symbol) same ∙ first_among v.symbol (map (λ (x : Version). x.symbol) vs)
+version_among (w ∷ vs) (suc k) v here = later_among v.symbol w.symbol (map (λ (x : Version). x.symbol) vs) (version_among vs k v here)
 
-abbrev symbols_of_versions : Module → List (ℕ × Function) → List (List ℕ)
-symbols_of_versions m es = map (λ v. v.symbol) (map (λ e. version_of m e.0 e.1) es)
+symbol_named : (merged : Merged) (plan : Plan) (place : ℕ) (v : Version) → slice_get plan.versions place ≡ Some v → Named merged plan (symbol_at plan place)
+symbol_named merged plan place v here =
+    let symbol : symbol_at plan place ≡ v.symbol = ap (λ (o : Option Version). option_map_or (λ (w : Version). w.symbol) o []) here in
+    subst (Named merged plan) (sym symbol)
+    (among_back v.symbol stub_names (version_names plan ++ array_names merged plan)
+    (among_front v.symbol (version_names plan) (array_names merged plan) (version_among plan.versions place v here)))
 
-version_among : (m : Module) (n k : ℕ) (fs : List Function) (f : Function) → slice_get fs k ≡ Some f → is_body f ≡ true
-    → is_among (symbols_of_versions m (enumerate_from n (filter is_body fs))) (unwrap_or (slice_get (symbols_from (λ f. f.name) (codes ".") is_body n fs) k) []) ≡ true
-version_among m n k [] f here body = cc
-version_among m n zero (g ∷ fs) f here body =
-    let same : g ≡ f = cc in
-    let defined : is_body g ≡ true = ap is_body same ∙ body in
-    let symbol = symbol_by g.name (codes ".") n in
-    ap (λ (b : Bool). is_among (symbols_of_versions m (enumerate_from n (cond b (g ∷ filter is_body fs) (filter is_body fs)))) symbol) defined
-    ∙ first_among symbol (symbols_of_versions m (enumerate_from (n + 1) (filter is_body fs)))
-version_among m n (suc k) (g ∷ fs) f here body = by (is_body g) (λ j. version_among m j k fs f here body)
+-- where a number stands
+number_at : (k : ℕ) (ns : List ℕ) → list_any (nat_eq k) ns ≡ true → (i : ℕ) × (slice_get ns i ≡ Some k)
+number_at k [] h = cc
+number_at k (n ∷ ns) h = by (nat_eq k n) refl h (number_at k ns)
   where
-    symbol : ℕ → List ℕ
-    symbol j = unwrap_or (slice_get (symbols_from (λ (f : Function). f.name) (codes ".") is_body j fs) k) []
-
-    by : (b : Bool) → ((j : ℕ) → is_among (symbols_of_versions m (enumerate_from j (filter is_body fs))) (symbol j) ≡ true)
-        → is_among (symbols_of_versions m (enumerate_from n (cond b (g ∷ filter is_body fs) (filter is_body fs)))) (symbol (cond b (n + 1) n)) ≡ true
-    by true h = later_among (symbol (n + 1)) (version_of m n g).symbol (symbols_of_versions m (enumerate_from (n + 1) (filter is_body fs))) (h (n + 1))
-    by false h = h n
-
-function_named : (m : Module) (main k : ℕ) → k < length m.functions → is_declared_function m k ≡ false → Named m main (function_symbol m k)
-function_named m main k lt defined = by (slice_get m.functions k) refl
-  where
-    by : (o : Option Function) → slice_get m.functions k ≡ o → Named m main (function_symbol m k)
-    by None e = absurd (some_there m.functions k lt e)
-    by (Some f) e =
-        let extern : is_extern f.linkage ≡ false = sym (ap (λ (o : Option Function). option_map_or (λ (g : Function). is_extern g.linkage) o false) e) ∙ defined in
-        let name = function_symbol m k in
-        among_back name stub_names (version_names m ++ array_names m main)
-        (among_front name (version_names m) (array_names m main) (version_among m 0 k m.functions f e (ap not extern)))
-
--- the array of a symbol, whose number is its place among those with storage behind the first n
-record IsStored (symbol : List ℕ) (n : ℕ) (arrays : List MergedArray) : Type 0 where
-  place : ℕ
-  inside : place < length arrays
-  same : symbol ≡ symbol_by (option_map_or (λ a. a.name) (slice_get arrays place) []) (codes ".a") (n + place)
-
-abbrev stored_of : List (ℕ × Array) → List MergedArray
-stored_of es = map (λ e. merged_array e.0 e.1) es
-
-abbrev stored_from : ℕ → List Array → List (ℕ × Array)
-stored_from place xs = filter (λ e. is_storage e.1) (enumerate_from place xs)
-
-array_stored : (n place k : ℕ) (xs : List Array) (a : Array) → slice_get xs k ≡ Some a → is_storage a ≡ true
-    → IsStored (unwrap_or (slice_get (symbols_from (λ a. a.name) (codes ".a") is_storage n xs) k) []) n (stored_of (stored_from place xs))
-array_stored n place k [] a here storage = cc
-array_stored n place zero (b ∷ xs) a here storage =
-    let same : b ≡ a = cc in
-    let defined : is_storage b ≡ true = ap is_storage same ∙ storage in
-    let number : n ≡ n + 0 = omega arith in
-    let rest = stored_from (place + 1) xs in
-    subst (λ (t : Bool). IsStored (symbol_by b.name (codes ".a") n) n (stored_of (cond t ((place, b) ∷ rest) rest))) (sym defined)
-    (record { place = 0; inside = omega arith; same = ap (λ (j : ℕ). symbol_by b.name (codes ".a") j) number })
-array_stored n place (suc k) (b ∷ xs) a here storage = by (is_storage b) (λ j. array_stored j (place + 1) k xs a here storage)
-  where
-    rest : List (ℕ × Array)
-    rest = stored_from (place + 1) xs
-
-    symbol : ℕ → List ℕ
-    symbol j = unwrap_or (slice_get (symbols_from (λ (a : Array). a.name) (codes ".a") is_storage j xs) k) []
-
-    by : (t : Bool) → ((j : ℕ) → IsStored (symbol j) j (stored_of rest)) → IsStored (symbol (cond t (n + 1) n)) n (stored_of (cond t ((place, b) ∷ rest) rest))
-    by true h =
-        let s = h (n + 1) in
-        let number : n + 1 + s.place ≡ n + suc s.place = omega arith in
-        record {
-          place = suc s.place;
-          inside = omega (arith, s.inside);
-          same = s.same ∙ ap (λ (j : ℕ). symbol_by (option_map_or (λ (a : MergedArray). a.name) (slice_get (stored_of rest) s.place) []) (codes ".a") j) number;
-        }
-    by false h = h n
-
-number_there : (a n k : ℕ) → k < n → slice_get (range_with_len a n) k ≡ Some (a + k)
-number_there a zero k lt = absurd (omega (arith, lt))
-number_there a (suc n) zero lt = let same : a ≡ a + 0 = omega arith in ap (λ (j : ℕ). Some j) same
-number_there a (suc n) (suc k) lt = let same : a + 1 + k ≡ a + suc k = omega arith in number_there (a + 1) n k (omega (arith, lt)) ∙ ap (λ (j : ℕ). Some j) same
+    by : (b : Bool) → nat_eq k n ≡ b → (b || list_any (nat_eq k) ns) ≡ true → (list_any (nat_eq k) ns ≡ true → (i : ℕ) × (slice_get ns i ≡ Some k)) → (i : ℕ) × (slice_get (n ∷ ns) i ≡ Some k)
+    by true same either rest = (0, ap (λ (j : ℕ). Some j) (sym (same_number k n same)))
+    by false same either rest = let later = rest either in (suc later.0, later.1)
 
 -- the symbol of a kept array
-kept_named : (merged : Merged) (n k : ℕ) → k < n → is_among (map (merged_symbol merged) (arrays_in_order merged (all_of n))) (merged_symbol merged k) ≡ true
-kept_named merged n k lt =
-    ap (λ (names : List (List ℕ)). is_among names name) (map-append (merged_symbol merged) stored zeroed) ∙ by (is_zeroed merged k) refl
+kept_named : (merged : Merged) (kept : List ℕ) (k : ℕ) → list_any (nat_eq k) kept ≡ true → is_among (map (array_symbol merged) (arrays_in_order merged kept)) (array_symbol merged k) ≡ true
+kept_named merged kept k stands =
+    ap (λ (names : List (List ℕ)). is_among names name) (map-append (array_symbol merged) stored zeroed) ∙ by (is_zeroed merged k) refl
   where
     name : List ℕ
-    name = merged_symbol merged k
+    name = array_symbol merged k
 
     stored : List ℕ
-    stored = filter (λ (number : ℕ). not (is_zeroed merged number)) (all_of n)
+    stored = filter (λ (number : ℕ). not (is_zeroed merged number)) kept
 
     zeroed : List ℕ
-    zeroed = filter (is_zeroed merged) (all_of n)
+    zeroed = filter (is_zeroed merged) kept
 
-    here : slice_get (all_of n) k ≡ Some k
-    here = let same : 0 + k ≡ k = omega arith in number_there 0 n k lt ∙ ap (λ (j : ℕ). Some j) same
+    here : (i : ℕ) × (slice_get kept i ≡ Some k)
+    here = number_at k kept stands
 
-    by : (b : Bool) → is_zeroed merged k ≡ b → is_among (map (merged_symbol merged) stored ++ map (merged_symbol merged) zeroed) name ≡ true
-    by true e = among_back name (map (merged_symbol merged) stored) (map (merged_symbol merged) zeroed) (picked_among (merged_symbol merged) (is_zeroed merged) (all_of n) k k here e)
+    by : (b : Bool) → is_zeroed merged k ≡ b → is_among (map (array_symbol merged) stored ++ map (array_symbol merged) zeroed) name ≡ true
+    by true e = among_back name (map (array_symbol merged) stored) (map (array_symbol merged) zeroed) (picked_among (array_symbol merged) (is_zeroed merged) kept here.0 k here.1 e)
     by false e =
-        among_front name (map (merged_symbol merged) stored) (map (merged_symbol merged) zeroed)
-        (picked_among (merged_symbol merged) (λ (number : ℕ). not (is_zeroed merged number)) (all_of n) k k here (ap not e))
+        among_front name (map (array_symbol merged) stored) (map (array_symbol merged) zeroed)
+        (picked_among (array_symbol merged) (λ (number : ℕ). not (is_zeroed merged number)) kept here.0 k here.1 (ap not e))
 
-stored_named : (m : Module) (main : ℕ) (symbol : List ℕ) → IsStored symbol 0 (merged_of m main).arrays → Named m main symbol
-stored_named m main symbol s =
-    let merged = merged_of m main in
-    let name = merged_symbol merged s.place in
-    let number : 0 + s.place ≡ s.place = omega arith in
-    let same : symbol ≡ name = s.same ∙ ap (λ (j : ℕ). symbol_by (option_map_or (λ (a : MergedArray). a.name) (slice_get merged.arrays s.place) []) (codes ".a") j) number in
-    let inside : s.place < length (storage_of m) = omega (arith, s.inside, length-map (storage_of m) (λ (e : ℕ × Array). merged_array e.0 e.1)) in
-    subst (Named m main) (sym same)
-    (among_back name stub_names (version_names m ++ array_names m main)
-    (among_back name (version_names m) (array_names m main) (kept_named merged (length (storage_of m)) s.place inside)))
-
-array_named : (m : Module) (main k : ℕ) → k < length m.arrays → is_declared_array m k ≡ false → Named m main (array_symbol m k)
-array_named m main k lt defined = by (slice_get m.arrays k) refl
-  where
-    by : (o : Option Array) → slice_get m.arrays k ≡ o → Named m main (array_symbol m k)
-    by None e = absurd (some_there m.arrays k lt e)
-    by (Some a) e =
-        let extern : is_extern a.linkage ≡ false = sym (ap (λ (o : Option Array). option_map_or (λ (b : Array). is_extern b.linkage) o false) e) ∙ defined in
-        stored_named m main (array_symbol m k) (array_stored 0 0 k m.arrays a e (ap not extern))
-
--- ---- what statements name
-
--- the names of what a statement names
-abbrev Names : Module → (List ℕ → Type 0) → Statement → Type 0
-Names m P (Call to f args) = P (function_symbol m f)
-Names m P (Load to array a) = P (array_symbol m array)
-Names m P (Store array a b) = P (array_symbol m array)
-Names m P _ = Unit {0}
-
-statement_named : (m : Module) (main : ℕ) (f : Function) (s : Statement) → knows (scope_in m f) s ≡ true → names_declaration m s ≡ false → Names m (Named m main) s
-statement_named m main f (Call to g args) known defined =
-    let sc = scope_in m f in
-    let three = three_true (knows_target sc to) (knows_function sc g) (list_all (knows_argument sc) args) known in
-    function_named m main g (below g (length m.functions) three.1) defined
-statement_named m main f (Load to array a) known defined =
-    let sc = scope_in m f in
-    let three = three_true (knows_component sc to) (knows_array sc array) (knows_operand sc a) known in
-    array_named m main array (below array (length m.arrays) three.1) defined
-statement_named m main f (Store array a b) known defined =
-    let sc = scope_in m f in
-    let three = three_true (knows_array sc array) (knows_operand sc a) (knows_operand sc b) known in
-    array_named m main array (below array (length m.arrays) three.0) defined
-statement_named m main f _ known defined = tt
-
-neither : (b c : Bool) → (b || c) ≡ false → (b ≡ false) × (c ≡ false)
-neither true c h = cc
-neither false c h = (refl, h)
-
-none_passes : {X : Type 0} (p : X → Bool) (xs : List X) → list_any p xs ≡ false → (i : ℕ) (x : X) → slice_get xs i ≡ Some x → p x ≡ false
-none_passes p [] h i x here = cc
-none_passes p (y ∷ ys) h zero x here = let same : x ≡ y = cc in ap p same ∙ (neither (p y) (list_any p ys) h).0
-none_passes p (y ∷ ys) h (suc i) x here = none_passes p ys (neither (p y) (list_any p ys) h).1 i x here
-
-all_places : {X : Type 0} (P : X → Type 0) (xs : List X) → ((i : ℕ) (x : X) → slice_get xs i ≡ Some x → P x) → AllByRecursion P xs
-all_places P [] each = tt
-all_places P (x ∷ xs) each = (each 0 x refl, all_places P xs (λ i y at. each (suc i) y at))
-
-body_named : (m : Module) (main place : ℕ) (f : Function) → IsChecked m → is_open m ≡ false → slice_get m.functions place ≡ Some f → AllByRecursion (Names m (Named m main)) f.body
-body_named m main place f checked closed here =
-    let k = facts m place f checked here in
-    let defined = none_passes (λ (g : Function). list_any (names_declaration m) g.body) m.functions closed place f here in
-    all_places (Names m (Named m main)) f.body
-    (λ i s at. statement_named m main f s (k.passes i s at).0 (none_passes (names_declaration m) f.body defined i s at))
+array_named : (merged : Merged) (plan : Plan) (k : ℕ) → list_any (nat_eq k) plan.arrays ≡ true → Named merged plan (array_symbol merged k)
+array_named merged plan k kept =
+    let name = array_symbol merged k in
+    among_back name stub_names (version_names plan ++ array_names merged plan)
+    (among_back name (version_names plan) (array_names merged plan) (kept_named merged plan.arrays k kept))
 
 -- ---- the calls and arrays of a version
 
-abbrev CalleeNamed : Module → (List ℕ → Type 0) → Edge → Type 0
-CalleeNamed m P e = P (function_symbol m e.callee)
+calls_named : (plan : Plan) (P : List ℕ → Type 0) (cs : List CallPlan) → ((k : ℕ) (c : CallPlan) → slice_get cs k ≡ Some c → P (symbol_at plan c.target))
+    → AllByRecursion P (map (λ c. c.symbol) (map (call_use plan) cs))
+calls_named plan P [] each = tt
+calls_named plan P (c ∷ cs) each = (each 0 c refl, calls_named plan P cs (λ k d at. each (suc k) d at))
 
-edge_named : (m : Module) (P : List ℕ → Type 0) (f : Function) (place : ℕ) (s : Statement) (rest : List Edge) → Names m P s → AllByRecursion (CalleeNamed m P) rest
-    → AllByRecursion (CalleeNamed m P) (cons_option (edge_of f place s) rest)
-edge_named m P f place (Call to g args) rest h k = (h, k)
-edge_named m P f place _ rest h k = k
+-- a call's target is a version
+pub target_there : (p : Program) (merged : Merged) (plan : Plan) (version : Version) (f : Function) → VersionFacts p merged plan version f
+    → (k : ℕ) (c : CallPlan) → slice_get version.calls k ≡ Some c → IsAt plan.versions c.target
+target_there p merged plan version f known k c at =
+    let inside : k < length (edges_of f) = omega (arith, place_inside version.calls k c at, known.count) in
+    let edge = found_at (edges_of f) k inside in
+    let call = known.calls k edge.element c edge.here at in
+    record { element = call.target; here = call.there }
 
-edges_named : (m : Module) (P : List ℕ → Type 0) (f : Function) (place : ℕ) (ss : List Statement) → AllByRecursion (Names m P) ss
-    → AllByRecursion (CalleeNamed m P) (filter_map (λ pair. edge_of f pair.0 pair.1) (enumerate_from place ss))
-edges_named m P f place [] h = tt
-edges_named m P f place (s ∷ ss) h =
-    edge_named m P f place s (filter_map (λ (pair : ℕ × Statement). edge_of f pair.0 pair.1) (enumerate_from (place + 1) ss)) h.0 (edges_named m P f (place + 1) ss h.1)
-
-calls_named : (m : Module) (P : List ℕ → Type 0) (es : List Edge) → AllByRecursion (CalleeNamed m P) es → AllByRecursion P (map (λ c. c.symbol) (map (call_use m) es))
-calls_named m P [] h = tt
-calls_named m P (e ∷ es) h = (h.0, calls_named m P es h.1)
-
-abbrev ArrayNamed : Module → (List ℕ → Type 0) → ℕ → Type 0
-ArrayNamed m P array = P (array_symbol m array)
-
-in_statement : (m : Module) (P : List ℕ → Type 0) (s : Statement) (rest : List ℕ) → Names m P s → AllByRecursion (ArrayNamed m P) rest → AllByRecursion (ArrayNamed m P) (arrays_in s ++ rest)
-in_statement m P (Load to array a) rest h k = (h, k)
-in_statement m P (Store array a b) rest h k = (h, k)
-in_statement m P _ rest h k = k
-
-in_body : (m : Module) (P : List ℕ → Type 0) (ss : List Statement) → AllByRecursion (Names m P) ss → AllByRecursion (ArrayNamed m P) (flat_map arrays_in ss)
-in_body m P [] h = tt
-in_body m P (s ∷ ss) h = in_statement m P s (flat_map arrays_in ss) h.0 (in_body m P ss h.1)
-
-of_named : (Q : ℕ → Type 0) (x : ℕ) (named : List ℕ) → list_any (nat_eq x) named ≡ true → AllByRecursion Q named → Q x
-of_named Q x [] e h = cc
-of_named Q x (y ∷ ys) e h = by (nat_eq x y) refl e (λ later. of_named Q x ys later h.1)
-  where
-    by : (b : Bool) → nat_eq x y ≡ b → (b || list_any (nat_eq x) ys) ≡ true → (list_any (nat_eq x) ys ≡ true → Q x) → Q x
-    by true same either rest = subst Q (sym (same_number x y same)) h.0
-    by false same either rest = rest either
-
-chosen : (Q : ℕ → Type 0) (named xs : List ℕ) → AllByRecursion Q named → AllByRecursion Q (filter (λ x. list_any (nat_eq x) named) xs)
-chosen Q named [] h = tt
-chosen Q named (x ∷ xs) h = by (list_any (nat_eq x) named) refl (chosen Q named xs h)
-  where
-    rest : List ℕ
-    rest = filter (λ (y : ℕ). list_any (nat_eq y) named) xs
-
-    by : (b : Bool) → list_any (nat_eq x) named ≡ b → AllByRecursion Q rest → AllByRecursion Q (cond b (x ∷ rest) rest)
-    by true e k = (of_named Q x named e h, k)
-    by false e k = k
-
-uses_named : (m : Module) (P : List ℕ → Type 0) (xs : List ℕ) → AllByRecursion (ArrayNamed m P) xs → AllByRecursion (λ u. P u.symbol) (map (array_use m) xs)
-uses_named m P [] h = tt
-uses_named m P (x ∷ xs) h = (h.0, uses_named m P xs h.1)
+uses_named : (merged : Merged) (plan : Plan) (P : List ℕ → Type 0) (xs : List ℕ) → ((k : ℕ) → list_any (nat_eq k) plan.arrays ≡ true → P (array_symbol merged k))
+    → AllByRecursion (λ a. list_any (nat_eq a) plan.arrays ≡ true) xs → AllByRecursion (λ u. P u.symbol) (map (array_use merged) xs)
+uses_named merged plan P [] each h = tt
+uses_named merged plan P (x ∷ xs) each h = (each x h.0, uses_named merged plan P xs each h.1)
 
 -- ---- the names of a version's code
 
@@ -425,38 +264,31 @@ unfolding object_of
 object_known names f h =
     all_from (IsKnown names) (own_symbol f ∷ map other_symbol (other_names f)) (λ e. cc, others_known names (other_names f) h)
 
-part_known : (m : Module) (main place number : ℕ) (f : Function) → IsChecked m → is_open m ≡ false → slice_get m.functions place ≡ Some f
-    → All (IsKnown (image_names m main)) (object_of (versioned_of (member_of m number f))).symbols
-part_known m main place number f checked closed here =
-    let P = Named m main in
-    let v = versioned_of (member_of m number f) in
-    let body = body_named m main place f checked closed here in
+part_known : (p : Program) (merged : Merged) (plan : Plan) (version : Version) (f : Function) → IsSummarised p merged → VersionFacts p merged plan version f
+    → All (IsKnown (image_names merged plan)) (object_of (versioned_of (member_of p merged plan version f))).symbols
+part_known p merged plan version f summarised known =
+    let P = Named merged plan in
+    let v = versioned_of (member_of p merged plan version f) in
     let holds : HoldsOf P v = record {
-      putchar = putchar_named m main;
-      getchar = getchar_named m main;
-      calls = calls_named m P (edges_of f) (edges_named m P f 0 f.body body);
-      arrays = uses_named m P (arrays_of m f) (chosen (ArrayNamed m P) (flat_map arrays_in f.body) (range_with_len 0 (length m.arrays)) (in_body m P f.body body));
+      putchar = putchar_named merged plan;
+      getchar = getchar_named merged plan;
+      calls = calls_named plan P version.calls (λ k c at. let target = target_there p merged plan version f known k c at in symbol_named merged plan c.target target.element target.here);
+      arrays = uses_named merged plan P (arrays_of (module_of p) f) (array_named merged plan)
+          (recursion_from_All (λ (a : ℕ). list_any (nat_eq a) plan.arrays ≡ true) (arrays_of (module_of p) f) known.arrays);
     } in
-    object_known (image_names m main) v (others_hold P v.symbol (names_of_code v) (code_holds P v holds (version_fits m place number f checked here)))
+    object_known (image_names merged plan) v (others_hold P v.symbol (names_of_code v) (code_holds P v holds (version_fits p merged plan version f summarised known)))
 
-parts_hold : (m : Module) (Q : RelocObject → Type 0) (n : ℕ) (fs : List Function)
-    → ((k number : ℕ) (f : Function) → slice_get fs k ≡ Some f → Q (object_of (versioned_of (member_of m number f))))
-    → AllByRecursion Q (map object_of (map (λ e. versioned_of (member_of m e.0 e.1)) (enumerate_from n (filter is_body fs))))
-parts_hold m Q n [] each = tt
-parts_hold m Q n (f ∷ fs) each = by (is_body f) (λ j. parts_hold m Q j fs (λ k number g at. each (suc k) number g at))
-  where
-    parts : ℕ → List Function → List RelocObject
-    parts j gs = map object_of (map (λ (e : ℕ × Function). versioned_of (member_of m e.0 e.1)) (enumerate_from j gs))
+pub mapped_all : (Q : RelocObject → Type 0) (fs : List VersionedFunction) → AllByRecursion (λ f. Q (object_of f)) fs → AllByRecursion Q (map object_of fs)
+mapped_all Q [] h = tt
+mapped_all Q (f ∷ fs) h = (h.0, mapped_all Q fs h.1)
 
-    by : (b : Bool) → ((j : ℕ) → AllByRecursion Q (parts j (filter is_body fs))) → AllByRecursion Q (parts n (cond b (f ∷ filter is_body fs) (filter is_body fs)))
-    by true h = (each 0 n f refl, h (n + 1))
-    by false h = h n
-
--- What a part names and does not define is a name of the image, if no statement names a declaration.
-pub names_known : (m : Module) (main : ℕ) → IsChecked m → is_open m ≡ false
-    → All (λ o. All (IsKnown (names_of (plan_of m) (merged_of m main) (map object_of (functions_of m)))) o.symbols) (map object_of (functions_of m))
-names_known m main checked closed =
-    let parts = map object_of (functions_of m) in
-    subst (λ (names : List (List ℕ)). All (λ (o : RelocObject). All (IsKnown names) o.symbols) parts) (sym (names_are m main parts))
-    (all_from (λ (o : RelocObject). All (IsKnown (image_names m main)) o.symbols) parts
-    (parts_hold m (λ (o : RelocObject). All (IsKnown (image_names m main)) o.symbols) 0 m.functions (λ place number f here. part_known m main place number f checked closed here)))
+-- What a part names and does not define is a name of the image.
+pub names_known : (p : Program) (merged : Merged) (plan : Plan) → IsSummarised p merged → IsPlanned merged plan
+    → All (λ o. All (IsKnown (names_of plan merged (map object_of (functions_of p merged plan)))) o.symbols) (map object_of (functions_of p merged plan))
+names_known p merged plan summarised planned =
+    let parts = map object_of (functions_of p merged plan) in
+    let Q = λ (o : RelocObject). All (IsKnown (image_names merged plan)) o.symbols in
+    subst (λ (names : List (List ℕ)). All (λ (o : RelocObject). All (IsKnown names) o.symbols) parts) (sym (names_are merged plan parts))
+    (all_from Q parts
+    (mapped_all Q (functions_of p merged plan)
+    (versions_have p merged plan (λ (f : VersionedFunction). Q (object_of f)) summarised planned (λ version f known. part_known p merged plan version f summarised known))))

@@ -2,11 +2,11 @@ pub mod OwnFirst
 pub mod PartForm
 pub mod PartFrame
 pub mod PartLaws
-pub mod Counting
 pub mod Listing
 pub mod Naming
 pub mod Summing
 pub mod Facts
+pub mod VersionFacts
 pub mod Arguments
 pub mod Uses
 pub mod Passing
@@ -18,3 +18,4 @@ pub mod SymbolLaws
 pub mod KnownLaws
 pub mod PlaceLaws
 pub mod LinkLaws
+pub mod VersionLaws

@@ -1,4 +1,4 @@
--- The symbols of items are names: an identifier, a short word of printable bytes, and a number in decimal.
+-- The symbols of arrays are names: an identifier, a short word of printable bytes, and a number in decimal.
 use Rattle.std.proofs.Common.{◌≡◌, ℕ, ◌≤◌, ◌<◌, ◌^◌, ◌+◌, Bool, true, false, ◌&&◌, ◌||◌, not, List, [], ◌∷◌, ◌++◌, length, refl, arith, length-append, ◌%◌}
 use Rattle.std.specs.Prelude.{All, nat_le, decimal, codes}
 use Rattle.std.specs.List.{list_all}
@@ -8,7 +8,7 @@ use Rattle.std.proofs.lemmas.Fmt.{decimal_by_steps, length-decimal-le}
 use Rattle.std.proofs.lemmas.List.Sums.{AllPass-from_list_all}
 use Rattle.std.proofs.lemmas.List.Elements.{All-nil, All-cons, All-append, All-weaker}
 use Rattle.gimple_ir.specs.Names.{IsName, IsPrintable, is_letter, is_digit, begins_with_letter, is_among, keywords, is_identifier}
-use Rattle.program_link.specs.Numbers.{symbol_by}
+use Rattle.program_link.specs.Known.{symbol_by}
 
 four : (a b c d : Bool) → (a && b && c && d) ≡ true → (a ≡ true) × (b ≡ true) × (c ≡ true)
 four true true true d e = (refl, refl, refl)
@@ -47,14 +47,8 @@ symbol_named name word n e short plain lt =
           (All-append IsPrintable word (decimal n) plain (digits_printable n (omega (arith, lt))));
     }
 
-dot : All IsPrintable (codes ".")
-dot = All-cons IsPrintable 46 [] (omega arith, omega arith) (All-nil IsPrintable)
-
 dot_a : All IsPrintable (codes ".a")
 dot_a = All-cons IsPrintable 46 (97 ∷ []) (omega arith, omega arith) (All-cons IsPrintable 97 [] (omega arith, omega arith) (All-nil IsPrintable))
-
-pub function_named : (name : List ℕ) (n : ℕ) → is_identifier name ≡ true → n < 2 ^ 32 → IsName (symbol_by name (codes ".") n)
-function_named name n e lt = symbol_named name (codes ".") n e (omega arith) dot lt
 
 pub array_named : (name : List ℕ) (n : ℕ) → is_identifier name ≡ true → n < 2 ^ 32 → IsName (symbol_by name (codes ".a") n)
 array_named name n e lt = symbol_named name (codes ".a") n e (omega arith) dot_a lt

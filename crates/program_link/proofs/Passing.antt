@@ -16,29 +16,35 @@ use Rattle.gimple_ir.specs.declared.types.Arg.{Arg}
 use Rattle.gimple_ir.specs.declared.types.Arg.TheVariants.{One, Whole}
 use Rattle.gimple_ir.specs.declared.types.Variable.{Variable}
 use Rattle.gimple_ir.specs.declared.types.Function.{Function}
-use Rattle.gimple_ir.specs.declared.types.Module.{Module}
+use Rattle.gimple_ir.specs.declared.types.Program.{Program}
 use Rattle.gimple_ir.specs.declared.types.Statement.{Statement}
 use Rattle.gimple_ir.specs.declared.types.Statement.TheVariants.{Call}
 use Rattle.gimple_ir.specs.declared.summary.Edge.{Edge}
 use Rattle.gimple_ir.specs.declared.unit.CallUse.{CallUse}
+use Rattle.gimple_ir.specs.declared.merged.Merged.{Merged}
+use Rattle.gimple_ir.specs.declared.plan.CallPlan.{CallPlan}
+use Rattle.gimple_ir.specs.declared.plan.Plan.{Plan}
+use Rattle.gimple_ir.specs.declared.plan.Version.{Version}
 use Rattle.gimple_ir.specs.declared.versioned.Pair.{Pair}
 use Rattle.gimple_ir.specs.declared.versioned.VersionedFunction.{VersionedFunction}
 use Rattle.gimple_ir.specs.CodeBound.{components_in, components_of}
 use Rattle.gimple_ir.specs.Statements.{component_types, knows_component, knows_operand, knows_argument, knows_target}
-use Rattle.gimple_ir.specs.Checks.{scope_in}
+use Rattle.gimple_ir.specs.Programs.{scope_of}
 use Rattle.gimple_meaning.specs.Source.{components_from, pairs_from}
-use Rattle.gimple_checks.proofs.Lists.{map_here}
 use Rattle.func_summary.specs.Summaries.{edge_of, edges_of}
 use Rattle.func_summary.proofs.Checked.{both-true, below, all_at, all_flat_map, place_inside}
 use Rattle.ipa_transform.specs.Versioned.{first_component, field_count, operands_of, struct_pairs, at_place, picked, kept_of, calls_in, versioned_of}
 use Rattle.ipa_transform.proofs.Sums.{field_count-within}
 use Rattle.rv64_select.specs.Versioned.{ComponentFits, OperandFits, TargetFits}
-use Rattle.program_link.specs.Lowering.{all_of, call_use, member_of}
+use Rattle.ipa_plan.specs.Plans.{all_of}
+use Rattle.program_link.specs.Versions.{call_use, member_of}
+use Rattle.program_link.proofs.Listing.{map_here}
+use Rattle.program_link.proofs.VersionFacts.{found_at, VersionFacts}
 
 -- ---- components
 
-abbrev pub version_at : Module → ℕ → Function → VersionedFunction
-version_at m number f = versioned_of (member_of m number f)
+abbrev pub version_at : Program → Merged → Plan → Version → Function → VersionedFunction
+version_at program merged plan version f = versioned_of (member_of program merged plan version f)
 
 abbrev pub types_of : List Variable → List (List ScalarType)
 types_of variables = map (λ (v : Variable). v.types) variables
@@ -63,16 +69,16 @@ fields_of (w ∷ ws) (suc v) = fields_of ws v
 pub variable_within : (variables : List Variable) (v : ℕ) → first_component (types_of variables) v + components_of variables v ≤ components_in variables
 variable_within variables v = omega (arith, field_count-within (types_of variables) v, fields_of variables v, sum_components variables)
 
-pub component_fits : (m : Module) (number : ℕ) (f : Function) (x : ℕ) → knows_component (scope_in m f) x ≡ true → ComponentFits (version_at m number f) x
-component_fits m number f x h = omega (arith, below x (length (component_types f.variables)) h, same_components f.variables)
+pub component_fits : (program : Program) (merged : Merged) (plan : Plan) (version : Version) (f : Function) (x : ℕ) → knows_component (scope_of program f) x ≡ true → ComponentFits (version_at program merged plan version f) x
+component_fits program merged plan version f x h = omega (arith, below x (length (component_types f.variables)) h, same_components f.variables)
 
-pub operand_fits : (m : Module) (number : ℕ) (f : Function) (a : Operand) → knows_operand (scope_in m f) a ≡ true → OperandFits (version_at m number f) a
-operand_fits m number f (Component x) h = component_fits m number f x h
-operand_fits m number f (Literal v) h = tt
+pub operand_fits : (program : Program) (merged : Merged) (plan : Plan) (version : Version) (f : Function) (a : Operand) → knows_operand (scope_of program f) a ≡ true → OperandFits (version_at program merged plan version f) a
+operand_fits program merged plan version f (Component x) h = component_fits program merged plan version f x h
+operand_fits program merged plan version f (Literal v) h = tt
 
-pub target_fits : (m : Module) (number : ℕ) (f : Function) (to : Option ℕ) → knows_target (scope_in m f) to ≡ true → TargetFits (version_at m number f) to
-target_fits m number f None h = tt
-target_fits m number f (Some x) h = component_fits m number f x h
+pub target_fits : (program : Program) (merged : Merged) (plan : Plan) (version : Version) (f : Function) (to : Option ℕ) → knows_target (scope_of program f) to ≡ true → TargetFits (version_at program merged plan version f) to
+target_fits program merged plan version f None h = tt
+target_fits program merged plan version f (Some x) h = component_fits program merged plan version f x h
 
 -- ---- whole structs
 
@@ -94,11 +100,11 @@ length-pairs_from : (to from count : ℕ) → length (pairs_from to from count) 
 length-pairs_from to from zero = refl
 length-pairs_from to from (suc n) = ap suc (length-pairs_from (to + 1) (from + 1) n)
 
-pub struct_pairs_fit : (m : Module) (number : ℕ) (f : Function) (to from : ℕ) → components_of f.variables to ≡ components_of f.variables from
-    → All (PairFits (version_at m number f)) (struct_pairs (types_of f.variables) to from)
-struct_pairs_fit m number f to from same =
+pub struct_pairs_fit : (program : Program) (merged : Merged) (plan : Plan) (version : Version) (f : Function) (to from : ℕ) → components_of f.variables to ≡ components_of f.variables from
+    → All (PairFits (version_at program merged plan version f)) (struct_pairs (types_of f.variables) to from)
+struct_pairs_fit program merged plan version f to from same =
     let vs = f.variables in
-    pairs_fit (version_at m number f) (first_component (types_of vs) to) (first_component (types_of vs) from) (field_count (types_of vs) from)
+    pairs_fit (version_at program merged plan version f) (first_component (types_of vs) to) (first_component (types_of vs) from) (field_count (types_of vs) from)
     (omega (arith, variable_within vs to, fields_of vs from, same, all_components vs)) (omega (arith, variable_within vs from, fields_of vs from, all_components vs))
 
 pub struct_pairs_few : (f : Function) (to from : ℕ) → length (struct_pairs (types_of f.variables) to from) ≤ components_of f.variables from
@@ -106,18 +112,18 @@ struct_pairs_few f to from =
     let vs = f.variables in
     omega (arith, length-pairs_from (first_component (types_of vs) to) (first_component (types_of vs) from) (field_count (types_of vs) from), fields_of vs from)
 
-argument_fits : (m : Module) (number : ℕ) (f : Function) (a : Arg) → knows_argument (scope_in m f) a ≡ true → All (OperandFits (version_at m number f)) (operands_of (types_of f.variables) a)
-argument_fits m number f (One a) h = All-cons (OperandFits (version_at m number f)) a [] (operand_fits m number f a h) (All-nil (OperandFits (version_at m number f)))
-argument_fits m number f (Whole v) h =
+argument_fits : (program : Program) (merged : Merged) (plan : Plan) (version : Version) (f : Function) (a : Arg) → knows_argument (scope_of program f) a ≡ true → All (OperandFits (version_at program merged plan version f)) (operands_of (types_of f.variables) a)
+argument_fits program merged plan version f (One a) h = All-cons (OperandFits (version_at program merged plan version f)) a [] (operand_fits program merged plan version f a h) (All-nil (OperandFits (version_at program merged plan version f)))
+argument_fits program merged plan version f (Whole v) h =
     let vs = f.variables in
-    components_fit (version_at m number f) (first_component (types_of vs) v) (field_count (types_of vs) v) (omega (arith, variable_within vs v, fields_of vs v, all_components vs))
+    components_fit (version_at program merged plan version f) (first_component (types_of vs) v) (field_count (types_of vs) v) (omega (arith, variable_within vs v, fields_of vs v, all_components vs))
 
-all_arguments : (m : Module) (number : ℕ) (f : Function) (args : List Arg) → list_all (knows_argument (scope_in m f)) args ≡ true
-    → All (λ a. All (OperandFits (version_at m number f)) (operands_of (types_of f.variables) a)) args
-all_arguments m number f [] h = All-nil (λ a. All (OperandFits (version_at m number f)) (operands_of (types_of f.variables) a))
-all_arguments m number f (a ∷ args) h =
-    let both = both-true (knows_argument (scope_in m f) a) (list_all (knows_argument (scope_in m f)) args) h in
-    All-cons (λ a. All (OperandFits (version_at m number f)) (operands_of (types_of f.variables) a)) a args (argument_fits m number f a both.0) (all_arguments m number f args both.1)
+all_arguments : (program : Program) (merged : Merged) (plan : Plan) (version : Version) (f : Function) (args : List Arg) → list_all (knows_argument (scope_of program f)) args ≡ true
+    → All (λ a. All (OperandFits (version_at program merged plan version f)) (operands_of (types_of f.variables) a)) args
+all_arguments program merged plan version f [] h = All-nil (λ a. All (OperandFits (version_at program merged plan version f)) (operands_of (types_of f.variables) a))
+all_arguments program merged plan version f (a ∷ args) h =
+    let both = both-true (knows_argument (scope_of program f) a) (list_all (knows_argument (scope_of program f)) args) h in
+    All-cons (λ a. All (OperandFits (version_at program merged plan version f)) (operands_of (types_of f.variables) a)) a args (argument_fits program merged plan version f a both.0) (all_arguments program merged plan version f args both.1)
 
 -- ---- what is picked
 
@@ -140,11 +146,11 @@ picked_few : {X : Type 0} (xs : List X) (ks : List ℕ) → length (picked xs ks
 picked_few xs [] = omega arith
 picked_few xs (k ∷ ks) = omega (arith, length-append (at_place xs k) (picked xs ks), one_at (slice_get xs k), picked_few xs ks)
 
-pub passed_fit : (m : Module) (number : ℕ) (f : Function) (args : List Arg) (ks : List ℕ) → list_all (knows_argument (scope_in m f)) args ≡ true
-    → All (OperandFits (version_at m number f)) (picked (flat_map (operands_of (types_of f.variables)) args) ks)
-passed_fit m number f args ks h =
-    let P = OperandFits (version_at m number f) in
-    picked_all P (flat_map (operands_of (types_of f.variables)) args) ks (all_flat_map P (operands_of (types_of f.variables)) args (all_arguments m number f args h))
+pub passed_fit : (program : Program) (merged : Merged) (plan : Plan) (version : Version) (f : Function) (args : List Arg) (ks : List ℕ) → list_all (knows_argument (scope_of program f)) args ≡ true
+    → All (OperandFits (version_at program merged plan version f)) (picked (flat_map (operands_of (types_of f.variables)) args) ks)
+passed_fit program merged plan version f args ks h =
+    let P = OperandFits (version_at program merged plan version f) in
+    picked_all P (flat_map (operands_of (types_of f.variables)) args) ks (all_flat_map P (operands_of (types_of f.variables)) args (all_arguments program merged plan version f args h))
 
 -- ---- the calls before a statement
 
@@ -183,20 +189,26 @@ edge_there f place (t ∷ ts) (suc i) s e here is =
     ∙ edge_there f (place + 1) ts i s e here (ap (λ k. edge_of f k s) at ∙ is)
 
 -- the call at a place is that of its number, and all argument components are kept
-pub record IsCallAt (m : Module) (f : Function) (n count : ℕ) : Type 0 where
-  pub inside : n < length (map (λ (c : CallUse). c.symbol) (map (call_use m) (edges_of f)))
-  pub kept : kept_of (map (call_use m) (edges_of f)) n ≡ all_of count
+pub record IsCallAt (plan : Plan) (calls : List CallPlan) (n count : ℕ) : Type 0 where
+  pub inside : n < length (map (λ (c : CallUse). c.symbol) (map (call_use plan) calls))
+  pub kept : kept_of (map (call_use plan) calls) n ≡ all_of count
 
-pub call_at : (m : Module) (f : Function) (i : ℕ) (s : Statement) (e : Edge) → slice_get f.body i ≡ Some s → edge_of f (0 + i) s ≡ Some e
-    → IsCallAt m f (calls_before f.body i) (length e.args)
-call_at m f i s e here is =
+pub edge_at : (f : Function) (i : ℕ) (s : Statement) (e : Edge) → slice_get f.body i ≡ Some s → edge_of f (0 + i) s ≡ Some e → slice_get (edges_of f) (calls_before f.body i) ≡ Some e
+edge_at f i s e here is = edge_there f 0 f.body i s e here is
+
+pub call_at : (program : Program) (merged : Merged) (plan : Plan) (version : Version) (f : Function) (i : ℕ) (s : Statement) (e : Edge) → VersionFacts program merged plan version f
+    → slice_get f.body i ≡ Some s → edge_of f (0 + i) s ≡ Some e → IsCallAt plan version.calls (calls_before f.body i) (length e.args)
+call_at program merged plan version f i s e known here is =
     let n = calls_before f.body i in
-    let at = edge_there f 0 f.body i s e here is in
-    let made = map_here (call_use m) (edges_of f) n e at in
-    let symbol = map_here (λ (c : CallUse). c.symbol) (map (call_use m) (edges_of f)) n (call_use m e) made in
+    let at = edge_at f i s e here is in
+    let within : n < length version.calls = omega (arith, place_inside (edges_of f) n e at, known.count) in
+    let found = found_at version.calls n within in
+    let call = known.calls n e found.element at found.here in
+    let made = map_here (call_use plan) version.calls n found.element found.here in
+    let symbol = map_here (λ (c : CallUse). c.symbol) (map (call_use plan) version.calls) n (call_use plan found.element) made in
     record {
-      inside = place_inside (map (λ (c : CallUse). c.symbol) (map (call_use m) (edges_of f))) n (call_use m e).symbol symbol;
-      kept = ap (λ o. option_map_or (λ (c : CallUse). c.kept) o []) made;
+      inside = place_inside (map (λ (c : CallUse). c.symbol) (map (call_use plan) version.calls)) n (call_use plan found.element).symbol symbol;
+      kept = ap (λ o. option_map_or (λ (c : CallUse). c.kept) o []) made ∙ call.kept;
     }
 
 pub picked_of_all : {X : Type 0} (xs : List X) (ks : List ℕ) (count : ℕ) → ks ≡ all_of count → length (picked xs ks) ≤ count

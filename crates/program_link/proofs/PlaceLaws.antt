@@ -1,27 +1,27 @@
--- The objects of a module's versions can be placed: no two symbols are alike, each version is defined once, and the text is short.
-use Rattle.std.proofs.Common.{◌≡◌, ℕ, zero, suc, ◌+◌, ◌*◌, ◌^◌, ◌<◌, ◌≤◌, Bool, true, false, cond, not, List, [], ◌∷◌, ◌++◌, length, map, filter, Option, Some, None, refl, sym, ap, ap₂, ◌∙◌, subst, arith}
+-- The objects of a plan's versions can be placed: no two symbols are alike, each version is defined once, and the text is short.
+use Rattle.std.proofs.Common.{◌≡◌, ℕ, zero, suc, ◌+◌, ◌^◌, ◌<◌, ◌≤◌, Bool, true, false, cond, not, List, [], ◌∷◌, ◌++◌, length, map, filter, Some, None, refl, sym, ap, ◌∙◌, subst, arith}
 use Rattle.std.specs.Prelude.{All, slice_get, sum_by, codes}
-use Rattle.std.specs.List.{AllByRecursion, enumerate_from, range_with_len}
+use Rattle.std.specs.List.{AllByRecursion}
 use Rattle.std.specs.Option.{option_map_or}
 use Rattle.std.specs.Str.{bytes_eq}
-use Rattle.std.proofs.lemmas.List.{length-map, map-append}
-use Rattle.std.proofs.lemmas.List.Elements.{recursion_from_All, All-from_recursion, All-weaker}
+use Rattle.std.proofs.lemmas.List.{length-map}
+use Rattle.std.proofs.lemmas.List.Elements.{All-nil, All-cons, recursion_from_All, All-from_recursion, All-weaker}
 use Rattle.std.proofs.lemmas.List.Sums.{sum_by-cons}
 use Rattle.std.proofs.lemmas.Slice.Eq.{bytes_eq-Decides}
 use Rattle.elf_container.specs.declared.relocatable.RelocObject.{RelocObject}
 use Rattle.elf_container.specs.Relocatable.{IsObject, ObjectFits}
-use Rattle.gimple_ir.specs.declared.types.Array.{Array}
 use Rattle.gimple_ir.specs.declared.types.Function.{Function}
-use Rattle.gimple_ir.specs.declared.types.Module.{Module}
+use Rattle.gimple_ir.specs.declared.types.Program.{Program}
 use Rattle.gimple_ir.specs.declared.merged.Merged.{Merged}
 use Rattle.gimple_ir.specs.declared.merged.MergedArray.{MergedArray}
 use Rattle.gimple_ir.specs.declared.plan.Plan.{Plan}
 use Rattle.gimple_ir.specs.declared.plan.Version.{Version}
 use Rattle.gimple_ir.specs.declared.versioned.VersionedFunction.{VersionedFunction}
-use Rattle.gimple_ir.specs.CodeBound.{code_bound_of}
 use Rattle.gimple_ir.specs.Names.{is_identifier, repeats}
-use Rattle.gimple_ir.specs.Programs.{IsChecked, IsStatedArray}
-use Rattle.func_summary.proofs.Checked.{all-from_places}
+use Rattle.gimple_ir.specs.Programs.{IsIdentifier}
+use Rattle.func_summary.specs.Summarised.{IsSmallArray, IsSummarised}
+use Rattle.func_summary.proofs.Checked.{place_inside}
+use Rattle.ipa_plan.specs.Laws.{IsVersionIn, IsPlanned}
 use Rattle.ipa_transform.specs.Versioned.{versioned_of}
 use Rattle.rv64_frame.specs.Frames.{HasFewSlots}
 use Rattle.rv64_frame.specs.Frames as frames
@@ -30,24 +30,23 @@ use Rattle.rv64_select.specs.Selected.{words_of_code}
 use Rattle.rv64_select.proofs.Bounds.{assembly-short}
 use Rattle.final_link.specs.declared.members.Member.{Member}
 use Rattle.final_link.specs.Stubs.{start_address, functions_address}
-use Rattle.final_link.specs.Image.{round_up}
 use Rattle.final_link.specs.Names.{of_name}
-use Rattle.final_link.specs.Arrays.{is_zeroed, size_of, array_symbol, stored_arrays, zeroed_arrays}
-use Rattle.final_link.specs.Members.{HasFrame, members_from, member_words, version_size, frame_size}
-use Rattle.final_link.specs.Symbols.{end_of, code_end, places_of, version_symbols, arrays_in_order, array_symbols, symbols_of}
-use Rattle.final_link.specs.Placing.{IsPlaceable, names_of, placed_image}
+use Rattle.final_link.specs.Arrays.{is_zeroed, array_symbol, stored_arrays, zeroed_arrays}
+use Rattle.final_link.specs.Members.{HasFrame, members_from, member_words, frame_size}
+use Rattle.final_link.specs.Symbols.{end_of, code_end, arrays_in_order}
+use Rattle.final_link.specs.Placing.{IsPlaceable, names_of}
 use Rattle.follow_laws.specs.Direct.{code_size}
-use Rattle.program_link.specs.Known.{IsPart}
-use Rattle.program_link.specs.Numbers.{is_body, is_storage, symbol_by, bodies_of, storage_of}
-use Rattle.program_link.specs.Lowering.{all_of, version_of, versions_of, plan_of, merged_array, merged_of, member_of, functions_of}
+use Rattle.program_link.specs.Known.{symbol_by, IsPart}
+use Rattle.program_link.specs.Versions.{member_of, version_in, functions_of}
 use Rattle.program_link.specs.Objects.{object_of}
-use Rattle.program_link.specs.Linking.{is_open, main_of, limits_of, first_passed, code_sum}
-use Rattle.program_link.proofs.Facts.{facts}
+use Rattle.program_link.specs.Linking.{limits_of, first_passed, code_sum}
+use Rattle.program_link.proofs.VersionFacts.{version_facts, version_has, versions_have}
 use Rattle.program_link.proofs.Fitting.{version_fits, version_bound}
 use Rattle.program_link.proofs.PartFrame.{has_frame, frame_is}
-use Rattle.program_link.proofs.PlanLaws.{main_stands, numbers_below, numbers_ascend, arrays_defined, size_is, Within, limits_kept, same_symbols}
-use Rattle.program_link.proofs.KnownLaws.{names_known}
+use Rattle.program_link.proofs.PlanLaws.{main_stands, items_all, arrays_defined, limits_kept, same_symbols}
+use Rattle.program_link.proofs.KnownLaws.{names_are, names_known}
 use Rattle.program_link.proofs.DirectLaws.{entries_from, entry_at, members_are, words_same, all_stand, ends_same}
+use Rattle.program_link.proofs.Summing.{Climbs, climbing, some_of_all}
 use Rattle.program_link.proofs.SymbolLaws.{Apart, apart_once, apart_append, functions_differ, arrays_differ, kinds_differ, stubs_differ, putchar_no_function, getchar_no_function, putchar_no_array, getchar_no_array}
 
 -- ---- lists
@@ -68,21 +67,6 @@ weaker : {X : Type 0} (P Q : X → Type 0) (xs : List X) → ((x : X) → P x �
 weaker P Q [] f h = tt
 weaker P Q (x ∷ xs) f h = (f x h.0, weaker P Q xs f h.1)
 
-few_by : {X : Type 0} (b : Bool) (x : X) (xs : List X) (n : ℕ) → length xs ≤ n → length (cond b (x ∷ xs) xs) ≤ suc n
-few_by true x xs n h = omega (arith, h)
-few_by false x xs n h = omega (arith, h)
-
-few_kept : {X : Type 0} (p : X → Bool) (xs : List X) → length (filter p xs) ≤ length xs
-few_kept p [] = omega arith
-few_kept p (x ∷ xs) = few_by (p x) x (filter p xs) (length xs) (few_kept p xs)
-
-as_long : {X : Type 0} (n : ℕ) (xs : List X) → length (enumerate_from n xs) ≡ length xs
-as_long n [] = refl
-as_long n (x ∷ xs) = ap suc (as_long (n + 1) xs)
-
-pub few_stored : (m : Module) → length (storage_of m) ≤ length m.arrays
-few_stored m = omega (arith, few_kept (λ (e : ℕ × Array). is_storage e.1) (enumerate_from 0 m.arrays), as_long 0 m.arrays)
-
 -- ---- different numbers
 
 abbrev Different : List ℕ → Type 0
@@ -101,17 +85,16 @@ joined_different : (ns ks : List ℕ) → Different ns → Different ks → AllB
 joined_different [] ks h g apart = g
 joined_different (n ∷ ns) ks h g apart = (both_all (λ (k : ℕ). n ≡ k → ⊥) ns ks h.0 apart.0, joined_different ns ks h.1 g apart.1)
 
-above : (n start count : ℕ) → n < start → AllByRecursion (λ k. n ≡ k → ⊥) (range_with_len start count)
-above n start zero lt = tt
-above n start (suc count) lt = (λ e. omega (arith, e, lt), above n (start + 1) count (omega (arith, lt)))
+-- numbers that climb differ
+above : (n least : ℕ) (ns : List ℕ) → n < least → Climbs least ns → AllByRecursion (λ k. n ≡ k → ⊥) ns
+unfolding Climbs
+above n least [] lt h = tt
+above n least (k ∷ ks) lt h = (λ e. omega (arith, e, lt, h.0), above n (k + 1) ks (omega (arith, lt, h.0)) h.1)
 
-range_different : (start count : ℕ) → Different (range_with_len start count)
-range_different start zero = tt
-range_different start (suc count) = (above start (start + 1) count (omega arith), range_different (start + 1) count)
-
-range_all : (P : ℕ → Type 0) (start count limit : ℕ) → start + count ≡ limit → ((n : ℕ) → n < limit → P n) → AllByRecursion P (range_with_len start count)
-range_all P start zero limit e each = tt
-range_all P start (suc count) limit e each = (each start (omega (arith, e)), range_all P (start + 1) count limit (omega (arith, e)) each)
+climbs_differ : (least : ℕ) (ns : List ℕ) → Climbs least ns → Different ns
+unfolding Climbs
+climbs_differ least [] h = tt
+climbs_differ least (n ∷ ns) h = (above n (n + 1) ns (omega arith) h.1, climbs_differ (n + 1) ns h.1)
 
 passing_by : {X : Type 0} (p : X → Bool) (b : Bool) (x : X) (xs : List X) → p x ≡ b → AllByRecursion (λ y. p y ≡ true) xs → AllByRecursion (λ y. p y ≡ true) (cond b (x ∷ xs) xs)
 passing_by p true x xs e h = (e, h)
@@ -139,83 +122,91 @@ parted_different p ns h =
     joined_different (filter missed ns) (filter p ns) (kept_different missed ns h) (kept_different p ns h)
     (other_kinds p (filter missed ns) (filter p ns) (passing missed ns) (passing p ns))
 
--- ---- the functions of a checked module
+-- ---- the versions
 
--- what is known of a function and its version
-record Bounded (m : Module) (f : Function) : Type 0 where
-  named : is_identifier f.name ≡ true
-  slots : (number : ℕ) → HasFewSlots (versioned_of (member_of m number f))
-  bound : (number : ℕ) → bound_of (versioned_of (member_of m number f)) ≤ code_bound_of f
+-- what is asked of a version's frame and code
+record Bounded (p : Program) (merged : Merged) (plan : Plan) (version : Version) : Type 0 where
+  slots : HasFewSlots (version_in p merged plan version)
+  bound : bound_of (version_in p merged plan version) ≤ option_map_or (λ g. g.summary.code_bound) (slice_get merged.functions version.function) 0
+  -- its symbol
+  name : List ℕ
+  named : is_identifier name ≡ true
+  symbol : version.symbol ≡ symbol_by name (codes ".") version.function
+  inside : version.function < length merged.functions
 
-bounded_at : (m : Module) → IsChecked m → (i : ℕ) (f : Function) → slice_get m.functions i ≡ Some f → Bounded m f
-bounded_at m checked i f here = record {
-  named = (facts m i f checked here).stated.name;
-  slots = λ number. (version_fits m i number f checked here).slots;
-  bound = λ number. version_bound m i number f checked here;
-}
+bounded : (p : Program) (merged : Merged) (plan : Plan) → IsSummarised p merged → (version : Version) → IsVersionIn merged plan version → Bounded p merged plan version
+bounded p merged plan summarised version known =
+    let k = version_facts p merged plan version summarised known in
+    let facts = k.1 in
+    record {
+      slots = version_has p merged plan HasFewSlots summarised (λ v f h. (version_fits p merged plan v f summarised h).slots) version known;
+      bound = subst (λ (f : Function). bound_of (versioned_of (member_of p merged plan version f)) ≤ option_map_or (λ g. g.summary.code_bound) (slice_get merged.functions version.function) 0)
+          (sym facts.is) (omega (arith, version_bound p merged plan version k.0 summarised facts, facts.bound));
+      name = k.0.name;
+      named = facts.facts.name;
+      symbol = facts.symbol;
+      inside = place_inside merged.functions version.function known.function known.there;
+    }
 
-all_bounded : (m : Module) → IsChecked m → AllByRecursion (Bounded m) (filter is_body m.functions)
-all_bounded m checked =
-    kept_all (Bounded m) is_body m.functions (recursion_from_All (Bounded m) m.functions (all-from_places (Bounded m) m.functions (bounded_at m checked)))
+all_bounded : (p : Program) (merged : Merged) (plan : Plan) → IsSummarised p merged → IsPlanned merged plan → AllByRecursion (Bounded p merged plan) plan.versions
+all_bounded p merged plan summarised planned =
+    recursion_from_All (Bounded p merged plan) plan.versions (All-weaker (IsVersionIn merged plan) (Bounded p merged plan) (bounded p merged plan summarised) plan.versions planned.versions)
 
-abbrev functions_from : Module → ℕ → List Function → List VersionedFunction
-functions_from m start fs = map (λ e. versioned_of (member_of m e.0 e.1)) (enumerate_from start fs)
-
-few_slots : (m : Module) (start : ℕ) (fs : List Function) → AllByRecursion (Bounded m) fs → AllByRecursion HasFewSlots (functions_from m start fs)
-few_slots m start [] h = tt
-few_slots m start (f ∷ fs) h = (h.0.slots start, few_slots m (start + 1) fs h.1)
-
-all_few : (m : Module) → IsChecked m → AllByRecursion HasFewSlots (functions_of m)
-all_few m checked = few_slots m 0 (filter is_body m.functions) (all_bounded m checked)
+all_few : (p : Program) (merged : Merged) (plan : Plan) → IsSummarised p merged → IsPlanned merged plan → AllByRecursion HasFewSlots (functions_of p merged plan)
+all_few p merged plan summarised planned = versions_have p merged plan HasFewSlots summarised planned (λ v f h. (version_fits p merged plan v f summarised h).slots)
 
 -- the size of each frame is read from the words
-pub framed : (m : Module) → IsChecked m → AllByRecursion (λ f. frame_size (words_of_code f) ≡ frames.frame_size f) (functions_of m)
-framed m checked = weaker HasFewSlots (λ (f : VersionedFunction). frame_size (words_of_code f) ≡ frames.frame_size f) (functions_of m) frame_is (all_few m checked)
+pub framed : (p : Program) (merged : Merged) (plan : Plan) → IsSummarised p merged → IsPlanned merged plan
+    → AllByRecursion (λ f. frame_size (words_of_code f) ≡ frames.frame_size f) (functions_of p merged plan)
+framed p merged plan summarised planned =
+    weaker HasFewSlots (λ (f : VersionedFunction). frame_size (words_of_code f) ≡ frames.frame_size f) (functions_of p merged plan) frame_is (all_few p merged plan summarised planned)
 
 -- ---- the symbols of versions
 
-abbrev symbols_from : Module → ℕ → List Function → List (List ℕ)
-symbols_from m start fs = map (λ v. v.symbol) (map (λ e. version_of m e.0 e.1) (enumerate_from start fs))
+abbrev symbols_in : List Version → List (List ℕ)
+symbols_in versions = map (λ v. v.symbol) versions
 
-later_versions : (m : Module) (name : List ℕ) (n start : ℕ) (fs : List Function) → is_identifier name ≡ true → AllByRecursion (Bounded m) fs → n < start → start + length fs < 2 ^ 64
-    → AllByRecursion (λ symbol. symbol_by name (codes ".") n ≡ symbol → ⊥) (symbols_from m start fs)
-later_versions m name n start [] named h lt few = tt
-later_versions m name n start (f ∷ fs) named h lt few = (
-  functions_differ name f.name n start named h.0.named (omega (arith, lt, few)) (omega (arith, few)) (λ e. omega (arith, e, lt)),
-  later_versions m name n (start + 1) fs named h.1 (omega (arith, lt)) (omega (arith, few)),
+abbrev numbers_in : List Version → List ℕ
+numbers_in versions = map (λ v. v.function) versions
+
+-- a version whose symbol has its function's number
+record IsNamed (v : Version) : Type 0 where
+  name : List ℕ
+  named : is_identifier name ≡ true
+  symbol : v.symbol ≡ symbol_by name (codes ".") v.function
+  small : v.function < 2 ^ 64
+
+all_named : (p : Program) (merged : Merged) (plan : Plan) (vs : List Version) → length merged.functions < 2 ^ 32 → AllByRecursion (Bounded p merged plan) vs → AllByRecursion IsNamed vs
+all_named p merged plan [] few h = tt
+all_named p merged plan (v ∷ vs) few h =
+    (record { name = h.0.name; named = h.0.named; symbol = h.0.symbol; small = omega (arith, h.0.inside, few) }, all_named p merged plan vs few h.1)
+
+later_versions : (v : Version) (vs : List Version) → IsNamed v → AllByRecursion IsNamed vs → AllByRecursion (λ k. v.function ≡ k → ⊥) (numbers_in vs)
+    → AllByRecursion (λ symbol. v.symbol ≡ symbol → ⊥) (symbols_in vs)
+later_versions v [] here h differ = tt
+later_versions v (w ∷ vs) here h differ = (
+  λ e. functions_differ here.name h.0.name v.function w.function here.named h.0.named here.small h.0.small differ.0 (sym here.symbol ∙ e ∙ h.0.symbol),
+  later_versions v vs here h.1 differ.1,
 )
 
-versions_apart : (m : Module) (start : ℕ) (fs : List Function) → AllByRecursion (Bounded m) fs → start + length fs < 2 ^ 64 → Apart (symbols_from m start fs)
+versions_apart : (vs : List Version) → AllByRecursion IsNamed vs → Different (numbers_in vs) → Apart (symbols_in vs)
 unfolding Apart
-versions_apart m start [] h few = tt
-versions_apart m start (f ∷ fs) h few =
-    (later_versions m f.name start (start + 1) fs h.0.named h.1 (omega arith) (omega (arith, few)), versions_apart m (start + 1) fs h.1 (omega (arith, few)))
+versions_apart [] h differ = tt
+versions_apart (v ∷ vs) h differ = (later_versions v vs h.0 h.1 differ.0, versions_apart vs h.1 differ.1)
 
-no_version : (m : Module) (stub : List ℕ) (start : ℕ) (fs : List Function) → ((a : List ℕ) (n : ℕ) → is_identifier a ≡ true → n < 2 ^ 64 → stub ≡ symbol_by a (codes ".") n → ⊥)
-    → AllByRecursion (Bounded m) fs → start + length fs < 2 ^ 64 → AllByRecursion (λ symbol. stub ≡ symbol → ⊥) (symbols_from m start fs)
-no_version m stub start [] law h few = tt
-no_version m stub start (f ∷ fs) law h few = (law f.name start h.0.named (omega (arith, few)), no_version m stub (start + 1) fs law h.1 (omega (arith, few)))
+no_version : (stub : List ℕ) (vs : List Version) → ((a : List ℕ) (n : ℕ) → is_identifier a ≡ true → n < 2 ^ 64 → stub ≡ symbol_by a (codes ".") n → ⊥)
+    → AllByRecursion IsNamed vs → AllByRecursion (λ symbol. stub ≡ symbol → ⊥) (symbols_in vs)
+no_version stub [] law h = tt
+no_version stub (v ∷ vs) law h = (λ e. law h.0.name v.function h.0.named h.0.small (e ∙ h.0.symbol), no_version stub vs law h.1)
 
 -- ---- the symbols of arrays
 
 abbrev array_name : Merged → ℕ → List ℕ
 array_name merged number = option_map_or (λ a. a.name) (slice_get merged.arrays number) []
 
-record IsNumbered (merged : Merged) (number : ℕ) : Type 0 where
+record HasSymbol (merged : Merged) (number : ℕ) : Type 0 where
   named : is_identifier (array_name merged number) ≡ true
   small : number < 2 ^ 64
-
-named_by : (b : Bool) (place : ℕ) (a : Array) (rest : List (ℕ × Array)) → is_identifier a.name ≡ true
-    → AllByRecursion (λ x. is_identifier x.name ≡ true) (map (λ e. merged_array e.0 e.1) rest)
-    → AllByRecursion (λ x. is_identifier x.name ≡ true) (map (λ e. merged_array e.0 e.1) (cond b ((place, a) ∷ rest) rest))
-named_by true place a rest named h = (named, h)
-named_by false place a rest named h = h
-
-stored_named : (place : ℕ) (xs : List Array) → AllByRecursion IsStatedArray xs
-    → AllByRecursion (λ x. is_identifier x.name ≡ true) (map (λ e. merged_array e.0 e.1) (filter (λ e. is_storage e.1) (enumerate_from place xs)))
-stored_named place [] h = tt
-stored_named place (a ∷ xs) h =
-    named_by (is_storage a) place a (filter (λ (e : ℕ × Array). is_storage e.1) (enumerate_from (place + 1) xs)) h.0.name (stored_named (place + 1) xs h.1)
 
 named_at : (arrays : List MergedArray) (number : ℕ) → AllByRecursion (λ x. is_identifier x.name ≡ true) arrays → number < length arrays
     → is_identifier (option_map_or (λ a. a.name) (slice_get arrays number) []) ≡ true
@@ -223,85 +214,84 @@ named_at [] number h lt = absurd (omega (arith, lt))
 named_at (a ∷ arrays) zero h lt = h.0
 named_at (a ∷ arrays) (suc number) h lt = named_at arrays number h.1 (omega (arith, lt))
 
-all_numbered : (m : Module) (main : ℕ) → IsChecked m → AllByRecursion (IsNumbered (merged_of m main)) (all_of (length (storage_of m)))
-all_numbered m main checked =
-    let merged = merged_of m main in
-    let count = length (storage_of m) in
-    let named = stored_named 0 m.arrays (recursion_from_All IsStatedArray m.arrays checked.stated.arrays) in
-    let long = length-map (storage_of m) (λ (e : ℕ × Array). merged_array e.0 e.1) in
-    range_all (IsNumbered merged) 0 count count (omega arith)
-    (λ n lt. record { named = named_at merged.arrays n named (omega (arith, lt, long)); small = omega (arith, lt, few_stored m, checked.stated.items) })
+pub same_length : (p : Program) (merged : Merged) → IsSummarised p merged → length merged.arrays ≡ length p.arrays
+same_length p merged summarised = sym (length-map merged.arrays (λ (a : MergedArray). a.item)) ∙ ap length summarised.items
 
-later_arrays : (merged : Merged) (n : ℕ) (ns : List ℕ) → IsNumbered merged n → AllByRecursion (IsNumbered merged) ns → AllByRecursion (λ k. n ≡ k → ⊥) ns
+-- the names of all arrays
+renamed : (a : MergedArray) → a.name ≡ a.item.name → IsIdentifier a.item.name → IsIdentifier a.name
+renamed a e h = subst IsIdentifier (sym e) h
+
+all_renamed : (xs : List MergedArray) → AllByRecursion (λ a. a.name ≡ a.item.name) xs → AllByRecursion (λ a. IsSmallArray a.item) xs → AllByRecursion (λ a. IsIdentifier a.name) xs
+all_renamed [] e h = tt
+all_renamed (x ∷ xs) e h = (renamed x e.0 h.0.name, all_renamed xs e.1 h.1)
+
+pub arrays_named : (p : Program) (merged : Merged) → IsSummarised p merged → AllByRecursion (λ a. IsIdentifier a.name) merged.arrays
+arrays_named p merged summarised =
+    all_renamed merged.arrays (recursion_from_All (λ (a : MergedArray). a.name ≡ a.item.name) merged.arrays summarised.names)
+    (recursion_from_All (λ (a : MergedArray). IsSmallArray a.item) merged.arrays (items_all p merged IsSmallArray summarised summarised.arrays))
+
+all_have : (p : Program) (merged : Merged) (plan : Plan) → IsSummarised p merged → IsPlanned merged plan → AllByRecursion (HasSymbol merged) plan.arrays
+all_have p merged plan summarised planned =
+    let names = arrays_named p merged summarised in
+    let few = same_length p merged summarised in
+    recursion_from_All (HasSymbol merged) plan.arrays
+    (All-weaker (λ (n : ℕ). n < length merged.arrays) (HasSymbol merged) (λ n lt. record { named = named_at merged.arrays n names lt; small = omega (arith, lt, few, summarised.few_arrays) }) plan.arrays planned.arrays)
+
+later_arrays : (merged : Merged) (n : ℕ) (ns : List ℕ) → HasSymbol merged n → AllByRecursion (HasSymbol merged) ns → AllByRecursion (λ k. n ≡ k → ⊥) ns
     → AllByRecursion (λ symbol. array_symbol merged n ≡ symbol → ⊥) (map (array_symbol merged) ns)
 later_arrays merged n [] here h differ = tt
 later_arrays merged n (k ∷ ns) here h differ =
     (arrays_differ (array_name merged n) (array_name merged k) n k here.named h.0.named here.small h.0.small differ.0, later_arrays merged n ns here h.1 differ.1)
 
-arrays_apart : (merged : Merged) (ns : List ℕ) → AllByRecursion (IsNumbered merged) ns → Different ns → Apart (map (array_symbol merged) ns)
+arrays_apart : (merged : Merged) (ns : List ℕ) → AllByRecursion (HasSymbol merged) ns → Different ns → Apart (map (array_symbol merged) ns)
 unfolding Apart
 arrays_apart merged [] h differ = tt
 arrays_apart merged (n ∷ ns) h differ = (later_arrays merged n ns h.0 h.1 differ.0, arrays_apart merged ns h.1 differ.1)
 
 no_array : (merged : Merged) (symbol : List ℕ) (ns : List ℕ) → ((a : List ℕ) (n : ℕ) → is_identifier a ≡ true → symbol ≡ symbol_by a (codes ".a") n → ⊥)
-    → AllByRecursion (IsNumbered merged) ns → AllByRecursion (λ other. symbol ≡ other → ⊥) (map (array_symbol merged) ns)
+    → AllByRecursion (HasSymbol merged) ns → AllByRecursion (λ other. symbol ≡ other → ⊥) (map (array_symbol merged) ns)
 no_array merged symbol [] law h = tt
 no_array merged symbol (n ∷ ns) law h = (law (array_name merged n) n h.0.named, no_array merged symbol ns law h.1)
 
-no_arrays : (m : Module) (merged : Merged) (start : ℕ) (fs : List Function) (ns : List ℕ) → AllByRecursion (Bounded m) fs → AllByRecursion (IsNumbered merged) ns → start + length fs < 2 ^ 64
-    → AllByRecursion (λ x. AllByRecursion (λ y. x ≡ y → ⊥) (map (array_symbol merged) ns)) (symbols_from m start fs)
-no_arrays m merged start [] ns h g few = tt
-no_arrays m merged start (f ∷ fs) ns h g few = (
-  no_array merged (symbol_by f.name (codes ".") start) ns (λ a n named. kinds_differ f.name a start n h.0.named named (omega (arith, few))) g,
-  no_arrays m merged (start + 1) fs ns h.1 g (omega (arith, few)),
+no_arrays : (merged : Merged) (vs : List Version) (ns : List ℕ) → AllByRecursion IsNamed vs → AllByRecursion (HasSymbol merged) ns
+    → AllByRecursion (λ x. AllByRecursion (λ y. x ≡ y → ⊥) (map (array_symbol merged) ns)) (symbols_in vs)
+no_arrays merged [] ns h g = tt
+no_arrays merged (v ∷ vs) ns h g = (
+  no_array merged v.symbol ns (λ a n named e. kinds_differ h.0.name a v.function n h.0.named named h.0.small (sym h.0.symbol ∙ e)) g,
+  no_arrays merged vs ns h.1 g,
 )
 
 -- ---- all symbols
-
-placed_names : {X : Type 0} (name : X → List ℕ) (size : X → ℕ) (at : ℕ) (xs : List X) → map (λ e. e.0) (places_of name size at xs) ≡ map name xs
-placed_names name size at [] = refl
-placed_names name size at (x ∷ xs) = ap (λ (names : List (List ℕ)). name x ∷ names) (placed_names name size (at + size x) xs)
-
-names_are : (plan : Plan) (merged : Merged) (parts : List RelocObject)
-    → names_of plan merged parts ≡ codes "__builtin_putchar" ∷ (codes "__builtin_getchar" ∷ (map (λ v. v.symbol) plan.versions ++ map (array_symbol merged) (arrays_in_order merged plan.arrays)))
-unfolding symbols_of
-names_are plan merged parts =
-    let members = members_from 0 parts in
-    let text_end = code_end members plan.versions in
-    ap (λ (names : List (List ℕ)). codes "__builtin_putchar" ∷ (codes "__builtin_getchar" ∷ names))
-    (map-append (λ (e : List ℕ × ℕ). e.0) (version_symbols members plan.versions) (array_symbols merged plan.arrays text_end)
-    ∙ ap₂ (λ (a b : List (List ℕ)). a ++ b)
-    (placed_names (λ (v : Version). v.symbol) (version_size members) functions_address plan.versions)
-    (placed_names (array_symbol merged) (size_of merged) (round_up 4096 text_end) (arrays_in_order merged plan.arrays)))
 
 stubs_apart : (versions arrays : List (List ℕ)) → AllByRecursion (λ n. codes "__builtin_putchar" ≡ n → ⊥) (versions ++ arrays) → AllByRecursion (λ n. codes "__builtin_getchar" ≡ n → ⊥) (versions ++ arrays)
     → Apart (versions ++ arrays) → Apart (codes "__builtin_putchar" ∷ (codes "__builtin_getchar" ∷ (versions ++ arrays)))
 unfolding Apart
 stubs_apart versions arrays putchar getchar apart = ((stubs_differ, putchar), (getchar, apart))
 
-few_bodies : (m : Module) → IsChecked m → 0 + length (filter is_body m.functions) < 2 ^ 64
-few_bodies m checked = omega (arith, few_kept is_body m.functions, checked.stated.items)
+versions_named : (p : Program) (merged : Merged) (plan : Plan) → IsSummarised p merged → IsPlanned merged plan → AllByRecursion IsNamed plan.versions
+versions_named p merged plan summarised planned =
+    all_named p merged plan plan.versions (omega (arith, summarised.one_each, summarised.few_functions)) (all_bounded p merged plan summarised planned)
 
-pub all_differ : (m : Module) (main : ℕ) (parts : List RelocObject) → IsChecked m → repeats (names_of (plan_of m) (merged_of m main) parts) ≡ false
-all_differ m main parts checked =
-    let merged = merged_of m main in
-    let kept = all_of (length (storage_of m)) in
-    let bodies = filter is_body m.functions in
+versions_differ : (merged : Merged) (plan : Plan) → IsPlanned merged plan → Different (numbers_in plan.versions)
+versions_differ merged plan planned = climbs_differ 0 (numbers_in plan.versions) (climbing (numbers_in plan.versions) planned.ordered)
+
+pub all_differ : (p : Program) (merged : Merged) (plan : Plan) (parts : List RelocObject) → IsSummarised p merged → IsPlanned merged plan → repeats (names_of plan merged parts) ≡ false
+all_differ p merged plan parts summarised planned =
+    let kept = plan.arrays in
     let order = arrays_in_order merged kept in
-    let versions = symbols_from m 0 bodies in
+    let versions = symbols_in plan.versions in
     let arrays = map (array_symbol merged) order in
-    let h = all_bounded m checked in
-    let few = few_bodies m checked in
-    let all = all_numbered m main checked in
-    let numbered = both_all (IsNumbered merged) (stored_arrays merged kept) (zeroed_arrays merged kept)
-    (kept_all (IsNumbered merged) (λ (n : ℕ). not (is_zeroed merged n)) kept all) (kept_all (IsNumbered merged) (is_zeroed merged) kept all) in
-    let different = parted_different (is_zeroed merged) kept (range_different 0 (length (storage_of m))) in
-    let apart = apart_append versions arrays (versions_apart m 0 bodies h few) (arrays_apart merged order numbered different) (no_arrays m merged 0 bodies order h numbered few) in
-    let putchar = both_all (λ (n : List ℕ). codes "__builtin_putchar" ≡ n → ⊥) versions arrays (no_version m (codes "__builtin_putchar") 0 bodies putchar_no_function h few)
-    (no_array merged (codes "__builtin_putchar") order putchar_no_array numbered) in
-    let getchar = both_all (λ (n : List ℕ). codes "__builtin_getchar" ≡ n → ⊥) versions arrays (no_version m (codes "__builtin_getchar") 0 bodies getchar_no_function h few)
-    (no_array merged (codes "__builtin_getchar") order getchar_no_array numbered) in
-    ap repeats (names_are (plan_of m) merged parts)
+    let named = versions_named p merged plan summarised planned in
+    let all = all_have p merged plan summarised planned in
+    let have = both_all (HasSymbol merged) (stored_arrays merged kept) (zeroed_arrays merged kept)
+    (kept_all (HasSymbol merged) (λ (n : ℕ). not (is_zeroed merged n)) kept all) (kept_all (HasSymbol merged) (is_zeroed merged) kept all) in
+    let different = parted_different (is_zeroed merged) kept (climbs_differ 0 kept (climbing kept planned.ascending)) in
+    let apart = apart_append versions arrays (versions_apart plan.versions named (versions_differ merged plan planned)) (arrays_apart merged order have different) (no_arrays merged plan.versions order named have) in
+    let putchar = both_all (λ (n : List ℕ). codes "__builtin_putchar" ≡ n → ⊥) versions arrays (no_version (codes "__builtin_putchar") plan.versions putchar_no_function named)
+    (no_array merged (codes "__builtin_putchar") order putchar_no_array have) in
+    let getchar = both_all (λ (n : List ℕ). codes "__builtin_getchar" ≡ n → ⊥) versions arrays (no_version (codes "__builtin_getchar") plan.versions getchar_no_function named)
+    (no_array merged (codes "__builtin_getchar") order getchar_no_array have) in
+    ap repeats (names_are merged plan parts)
     ∙ apart_once (codes "__builtin_putchar" ∷ (codes "__builtin_getchar" ∷ (versions ++ arrays))) (stubs_apart versions arrays putchar getchar apart)
 
 -- ---- each version is defined once
@@ -345,15 +335,17 @@ unmapped : (P : List ℕ → Type 0) (vs : List Version) → AllByRecursion P (m
 unmapped P [] h = tt
 unmapped P (v ∷ vs) h = (h.0, unmapped P vs h.1)
 
-all_once : (m : Module) → IsChecked m → AllByRecursion (λ v. count_named v.symbol (members_from 0 (map object_of (functions_of m))) ≡ 1) (versions_of m)
-all_once m checked =
-    let fs = functions_of m in
+all_once : (p : Program) (merged : Merged) (plan : Plan) → IsSummarised p merged → IsPlanned merged plan
+    → AllByRecursion (λ v. count_named v.symbol (members_from 0 (map object_of (functions_of p merged plan))) ≡ 1) plan.versions
+all_once p merged plan summarised planned =
+    let fs = functions_of p merged plan in
     let names = map (λ (f : VersionedFunction). f.symbol) fs in
-    let apart : Apart names = subst Apart (same_symbols m) (versions_apart m 0 (filter is_body m.functions) (all_bounded m checked) (few_bodies m checked)) in
+    let same = same_symbols p merged plan in
+    let apart : Apart names = subst Apart same (versions_apart plan.versions (versions_named p merged plan summarised planned) (versions_differ merged plan planned)) in
     let once = subst (λ (es : List (List ℕ × Member)). AllByRecursion (λ (n : List ℕ). count_named n es ≡ 1) names) (sym (members_are 0 fs)) (once_in 0 fs apart) in
     let members = members_from 0 (map object_of fs) in
-    unmapped (λ (n : List ℕ). count_named n members ≡ 1) (versions_of m)
-    (subst (λ (ns : List (List ℕ)). AllByRecursion (λ (n : List ℕ). count_named n members ≡ 1) ns) (sym (same_symbols m)) once)
+    unmapped (λ (n : List ℕ). count_named n members ≡ 1) plan.versions
+    (subst (λ (ns : List (List ℕ)). AllByRecursion (λ (n : List ℕ). count_named n members ≡ 1) ns) (sym same) once)
 
 -- ---- their frames
 
@@ -374,78 +366,77 @@ frames_from parts part (f ∷ fs) few found =
       frames_from parts (part + 1) fs few.1 (λ i g at. subst (λ (k : ℕ). slice_get parts k ≡ Some (object_of g)) (next i) (found (suc i) g at)),
     )
 
-all_framed : (m : Module) → IsChecked m → AllByRecursion (λ e. HasFrame (member_words (map object_of (functions_of m)) e.1)) (members_from 0 (map object_of (functions_of m)))
-all_framed m checked =
-    let fs = functions_of m in
+all_framed : (p : Program) (merged : Merged) (plan : Plan) → IsSummarised p merged → IsPlanned merged plan
+    → AllByRecursion (λ e. HasFrame (member_words (map object_of (functions_of p merged plan)) e.1)) (members_from 0 (map object_of (functions_of p merged plan)))
+all_framed p merged plan summarised planned =
+    let fs = functions_of p merged plan in
     let parts = map object_of fs in
     let first = λ (i : ℕ). let e : i ≡ 0 + i = omega arith in e in
     subst (λ (es : List (List ℕ × Member)). AllByRecursion (λ (e : List ℕ × Member). HasFrame (member_words parts e.1)) es) (sym (members_are 0 fs))
-    (frames_from parts 0 fs (all_few m checked) (λ i f here. subst (λ (k : ℕ). slice_get parts k ≡ Some (object_of f)) (first i) (object_at fs i f here)))
+    (frames_from parts 0 fs (all_few p merged plan summarised planned) (λ i f here. subst (λ (k : ℕ). slice_get parts k ≡ Some (object_of f)) (first i) (object_at fs i f here)))
 
 -- ---- the text
 
 one_longer : (at size bound most rest all last : ℕ) → size ≤ bound → bound ≤ most → last ≤ at + size + rest → all ≡ most + rest → last ≤ at + all
 one_longer at size bound most rest all last h g more e = omega (arith, h, g, more, e)
 
-end_within : (m : Module) (at start : ℕ) (fs : List Function) → AllByRecursion (Bounded m) fs → end_of code_size at (functions_from m start fs) ≤ at + sum_by code_bound_of fs
-end_within m at start [] h = omega arith
-end_within m at start (f ∷ fs) h =
-    let v = versioned_of (member_of m start f) in
-    one_longer at (code_size v) (bound_of v) (code_bound_of f) (sum_by code_bound_of fs) (sum_by code_bound_of (f ∷ fs)) (end_of code_size (at + code_size v) (functions_from m (start + 1) fs))
-    (assembly-short v (h.0.slots start)) (h.0.bound start) (end_within m (at + code_size v) (start + 1) fs h.1) (sum_by-cons code_bound_of f fs)
+abbrev code_at : Merged → ℕ → ℕ
+code_at merged number = option_map_or (λ g. g.summary.code_bound) (slice_get merged.functions number) 0
+
+end_within : (p : Program) (merged : Merged) (plan : Plan) (at : ℕ) (vs : List Version) → AllByRecursion (Bounded p merged plan) vs
+    → end_of code_size at (map (version_in p merged plan) vs) ≤ at + sum_by (code_at merged) (numbers_in vs)
+end_within p merged plan at [] h = omega arith
+end_within p merged plan at (v ∷ vs) h =
+    let f = version_in p merged plan v in
+    one_longer at (code_size f) (bound_of f) (code_at merged v.function) (sum_by (code_at merged) (numbers_in vs)) (sum_by (code_at merged) (numbers_in (v ∷ vs)))
+    (end_of code_size (at + code_size f) (map (version_in p merged plan) vs))
+    (assembly-short f h.0.slots) h.0.bound (end_within p merged plan (at + code_size f) vs h.1) (sum_by-cons (code_at merged) v.function (numbers_in vs))
+
+inside_from : (p : Program) (merged : Merged) (plan : Plan) (vs : List Version) → AllByRecursion (Bounded p merged plan) vs → All (λ n. n < length merged.functions) (numbers_in vs)
+inside_from p merged plan [] h = All-nil (λ n. n < length merged.functions)
+inside_from p merged plan (v ∷ vs) h = All-cons (λ n. n < length merged.functions) v.function (numbers_in vs) h.0.inside (inside_from p merged plan vs h.1)
+
+-- the code of the versions is no longer than the bounds of all functions allow
+pub code_within : (p : Program) (merged : Merged) (plan : Plan) → IsSummarised p merged → IsPlanned merged plan
+    → end_of code_size functions_address (functions_of p merged plan) ≤ functions_address + code_sum merged
+code_within p merged plan summarised planned =
+    let all = all_bounded p merged plan summarised planned in
+    let some = some_of_all (λ g. g.summary.code_bound) merged.functions (numbers_in plan.versions) (climbing (numbers_in plan.versions) planned.ordered) (inside_from p merged plan plan.versions all) in
+    omega (arith, end_within p merged plan functions_address plan.versions all, some)
 
 short_text : (last direct code : ℕ) → last ≡ direct → direct ≤ functions_address + code → code ≤ 2 ^ 25 → last ≤ start_address + 2 ^ 27
 short_text last direct code e h g = omega (arith, e, h, g)
 
-text_short : (m : Module) → IsChecked m → code_sum m ≤ 2 ^ 25 → AllByRecursion IsObject (map object_of (functions_of m)) → code_end (members_from 0 (map object_of (functions_of m))) (versions_of m) ≤ start_address + 2 ^ 27
-text_short m checked within objects =
-    let fs = functions_of m in
-    let vs = versions_of m in
+text_short : (p : Program) (merged : Merged) (plan : Plan) → IsSummarised p merged → IsPlanned merged plan → code_sum merged ≤ 2 ^ 25 → AllByRecursion IsObject (map object_of (functions_of p merged plan))
+    → code_end (members_from 0 (map object_of (functions_of p merged plan))) plan.versions ≤ start_address + 2 ^ 27
+text_short p merged plan summarised planned within objects =
+    let fs = functions_of p merged plan in
+    let vs = plan.versions in
     let parts = map object_of fs in
-    let stand = all_stand [] fs vs parts refl (same_symbols m) (all_once m checked) objects (framed m checked) in
-    short_text (code_end (members_from 0 parts) vs) (end_of code_size functions_address fs) (code_sum m) (ends_same parts functions_address vs fs stand)
-    (end_within m functions_address 0 (filter is_body m.functions) (all_bounded m checked)) within
+    let stand = all_stand [] fs vs parts refl (same_symbols p merged plan) (all_once p merged plan summarised planned) objects (framed p merged plan summarised planned) in
+    short_text (code_end (members_from 0 parts) vs) (end_of code_size functions_address fs) (code_sum merged) (ends_same parts functions_address vs fs stand)
+    (code_within p merged plan summarised planned) within
 
 -- ---- what can be placed
 
-pub placeable : (m : Module) (main : ℕ) → IsChecked m → is_open m ≡ false → main_of m ≡ Some main → first_passed (limits_of m) ≡ None → All IsPart (map object_of (functions_of m))
-    → IsPlaceable (plan_of m) (merged_of m main) (map object_of (functions_of m))
-placeable m main checked closed is within parts =
-    let os = map object_of (functions_of m) in
+pub placeable : (p : Program) (merged : Merged) (plan : Plan) → IsSummarised p merged → IsPlanned merged plan → first_passed (limits_of merged) ≡ None
+    → All IsPart (map object_of (functions_of p merged plan)) → IsPlaceable plan merged (map object_of (functions_of p merged plan))
+placeable p merged plan summarised planned within parts =
+    let os = map object_of (functions_of p merged plan) in
     let members = members_from 0 os in
-    let limits = limits_kept m within in
-    let count = length (storage_of m) in
-    let long = length-map (storage_of m) (λ (e : ℕ × Array). merged_array e.0 e.1) in
+    let limits = limits_kept merged within in
     let objects = All-weaker IsPart IsObject (λ (o : RelocObject) (h : IsPart o). h.object) os parts in
     record {
-      main = main_stands m main is;
-      arrays = numbers_below count (length (merged_of m main).arrays) (omega (arith, long));
-      ascending = numbers_ascend count;
-      defined = arrays_defined m main checked;
-      differ = all_differ m main os checked;
+      main = main_stands p merged plan summarised planned;
+      arrays = planned.arrays;
+      ascending = planned.ascending;
+      defined = arrays_defined p merged summarised;
+      differ = all_differ p merged plan os summarised planned;
       objects = objects;
       fits = All-weaker IsPart ObjectFits (λ (o : RelocObject) (h : IsPart o). h.fits) os parts;
-      once = All-from_recursion (λ (v : Version). count_named v.symbol members ≡ 1) (versions_of m) (all_once m checked);
-      frames = All-from_recursion (λ (e : List ℕ × Member). HasFrame (member_words os e.1)) members (all_framed m checked);
-      known = names_known m main checked closed;
-      text = text_short m checked limits.code (recursion_from_All IsObject os objects);
-      size = omega (arith, size_is m main, limits.arrays);
+      once = All-from_recursion (λ (v : Version). count_named v.symbol members ≡ 1) plan.versions (all_once p merged plan summarised planned);
+      frames = All-from_recursion (λ (e : List ℕ × Member). HasFrame (member_words os e.1)) members (all_framed p merged plan summarised planned);
+      known = names_known p merged plan summarised planned;
+      text = text_short p merged plan summarised planned limits.code (recursion_from_All IsObject os objects);
+      size = limits.arrays;
     }
-
--- ---- what stands in variables
-
-pub count_is : (m : Module) (main : ℕ) (merged : Merged) (count : ℕ) → merged ≡ merged_of m main → count ≡ length merged.arrays → count ≡ length (storage_of m)
-count_is m main merged count e long = long ∙ ap (λ (x : Merged). length x.arrays) e ∙ length-map (storage_of m) (λ (e : ℕ × Array). merged_array e.0 e.1)
-
-pub plan_is : (m : Module) (versions : List Version) (arrays : List ℕ) (count : ℕ) (plan : Plan) → plan ≡ record { versions = versions; arrays = arrays; code = 1 }
-    → versions ≡ versions_of m → arrays ≡ all_of count → count ≡ length (storage_of m) → plan ≡ plan_of m
-plan_is m versions arrays count plan is e f long =
-    is ∙ ap₂ (λ (vs : List Version) (ns : List ℕ). let made : Plan = record { versions = vs; arrays = ns; code = 1 } in made) e (f ∙ ap all_of long)
-
-pub same_placeable : (p q : Plan) (a b : Merged) (os ps : List RelocObject) → p ≡ q → a ≡ b → os ≡ ps → IsPlaceable q b ps → IsPlaceable p a os
-same_placeable p q a b os ps e f g h =
-    subst (λ (x : Plan). IsPlaceable x a os) (sym e) (subst (λ (x : Merged). IsPlaceable q x os) (sym f) (subst (λ (x : List RelocObject). IsPlaceable q b x) (sym g) h))
-
-pub same_image : (p q : Plan) (a b : Merged) (os ps : List RelocObject) → p ≡ q → a ≡ b → os ≡ ps → placed_image p a os ≡ placed_image q b ps
-same_image p q a b os ps e f g =
-    ap (λ (x : Plan). placed_image x a os) e ∙ ap (λ (x : Merged). placed_image q x os) f ∙ ap (λ (x : List RelocObject). placed_image q b x) g

@@ -1,15 +1,15 @@
 -- The symbols of an image are all different: what stands behind the first `.` of a symbol tells them apart.
-use Rattle.std.proofs.Common.{◌≡◌, ℕ, zero, suc, ◌+◌, ◌^◌, ◌<◌, ◌≤◌, Bool, true, false, cond, List, [], ◌∷◌, ◌++◌, length, map, get_or, drop, ◌%◌, refl, sym, ap, ◌∙◌, subst, arith}
+use Rattle.std.proofs.Common.{◌≡◌, ℕ, ◌+◌, ◌^◌, ◌<◌, Bool, true, false, cond, List, [], ◌∷◌, ◌++◌, length, get_or, drop, ◌%◌, refl, sym, ap, ◌∙◌, arith}
 use Rattle.std.specs.Prelude.{nat_eq, nat_le, not, ◌&&◌, ◌||◌, codes, decimal}
-use Rattle.std.specs.List.{AllByRecursion, list_all, list_any, enumerate_from}
+use Rattle.std.specs.List.{AllByRecursion, list_all}
 use Rattle.std.specs.Str.{bytes_eq}
 use Rattle.std.specs.Str.Parse.{digits_value}
 use Rattle.std.proofs.lemmas.Bool.Decides.{nat_tests}
-use Rattle.std.proofs.lemmas.Fmt.{decimal_is_IsNumeral, decimal_by_steps, decimal_nonempty}
+use Rattle.std.proofs.lemmas.Fmt.{decimal_is_IsNumeral, decimal_by_steps}
 use Rattle.std.proofs.lemmas.Slice.Eq.{bytes_eq-Decides}
 use Rattle.gimple_ir.specs.Names.{is_among, is_identifier, is_letter, is_digit, begins_with_letter, keywords, repeats, repeats_after}
 use Rattle.func_summary.proofs.Checked.{both-true}
-use Rattle.program_link.specs.Numbers.{symbol_by}
+use Rattle.program_link.specs.Known.{symbol_by}
 
 -- ---- different names
 

@@ -8,13 +8,15 @@ use Rattle.std.proofs.lemmas.List.{length-map}
 use Rattle.std.proofs.lemmas.List.Elements.{All-nil, All-cons}
 use Rattle.std.proofs.lemmas.List.Folds.{list_any-append}
 use Rattle.gimple_ir.specs.declared.types.Function.{Function}
-use Rattle.gimple_ir.specs.declared.types.Module.{Module}
+use Rattle.gimple_ir.specs.declared.types.Program.{Program}
 use Rattle.gimple_ir.specs.declared.types.Statement.{Statement}
 use Rattle.gimple_ir.specs.declared.unit.ArrayUse.{ArrayUse}
+use Rattle.gimple_ir.specs.declared.merged.Merged.{Merged}
 use Rattle.func_summary.specs.Summaries.{arrays_in, names_array, arrays_of}
+use Rattle.func_summary.specs.Summarised.{module_of}
 use Rattle.ipa_transform.specs.Versioned.{use_of}
 use Rattle.ipa_transform.specs.Members.{Ascends}
-use Rattle.program_link.specs.Lowering.{array_use}
+use Rattle.program_link.specs.Versions.{array_use}
 
 -- ---- numbers of a range that pass a test
 
@@ -34,22 +36,22 @@ within_range p a (suc n) end le = by (p a) (within_range p (a + 1) n end (omega 
     by true h = All-cons (λ x. x < end) a (filter p (range_with_len (a + 1) n)) (omega (arith, le)) h
     by false h = h
 
-ascend_above : (m : Module) (p : ℕ → Bool) (a n : ℕ) (u : ArrayUse) → u.local < a → Ascends (u ∷ map (array_use m) (filter p (range_with_len a n)))
-ascend_above m p a zero u lt = tt
-ascend_above m p a (suc n) u lt =
-    by (p a) (ascend_above m p (a + 1) n (array_use m a) (omega arith)) (ascend_above m p (a + 1) n u (omega (arith, lt)))
+ascend_above : (merged : Merged) (p : ℕ → Bool) (a n : ℕ) (u : ArrayUse) → u.local < a → Ascends (u ∷ map (array_use merged) (filter p (range_with_len a n)))
+ascend_above merged p a zero u lt = tt
+ascend_above merged p a (suc n) u lt =
+    by (p a) (ascend_above merged p (a + 1) n (array_use merged a) (omega arith)) (ascend_above merged p (a + 1) n u (omega (arith, lt)))
   where
-    by : (b : Bool) → Ascends (array_use m a ∷ map (array_use m) (filter p (range_with_len (a + 1) n))) → Ascends (u ∷ map (array_use m) (filter p (range_with_len (a + 1) n)))
-        → Ascends (u ∷ map (array_use m) (cond b (a ∷ filter p (range_with_len (a + 1) n)) (filter p (range_with_len (a + 1) n))))
+    by : (b : Bool) → Ascends (array_use merged a ∷ map (array_use merged) (filter p (range_with_len (a + 1) n))) → Ascends (u ∷ map (array_use merged) (filter p (range_with_len (a + 1) n)))
+        → Ascends (u ∷ map (array_use merged) (cond b (a ∷ filter p (range_with_len (a + 1) n)) (filter p (range_with_len (a + 1) n))))
     by true next later = (lt, next)
     by false next later = later
 
-ascend : (m : Module) (p : ℕ → Bool) (a n : ℕ) → Ascends (map (array_use m) (filter p (range_with_len a n)))
-ascend m p a zero = tt
-ascend m p a (suc n) = by (p a) (ascend_above m p (a + 1) n (array_use m a) (omega arith)) (ascend m p (a + 1) n)
+ascend : (merged : Merged) (p : ℕ → Bool) (a n : ℕ) → Ascends (map (array_use merged) (filter p (range_with_len a n)))
+ascend merged p a zero = tt
+ascend merged p a (suc n) = by (p a) (ascend_above merged p (a + 1) n (array_use merged a) (omega arith)) (ascend merged p (a + 1) n)
   where
-    by : (b : Bool) → Ascends (array_use m a ∷ map (array_use m) (filter p (range_with_len (a + 1) n))) → Ascends (map (array_use m) (filter p (range_with_len (a + 1) n)))
-        → Ascends (map (array_use m) (cond b (a ∷ filter p (range_with_len (a + 1) n)) (filter p (range_with_len (a + 1) n))))
+    by : (b : Bool) → Ascends (array_use merged a ∷ map (array_use merged) (filter p (range_with_len (a + 1) n))) → Ascends (map (array_use merged) (filter p (range_with_len (a + 1) n)))
+        → Ascends (map (array_use merged) (cond b (a ∷ filter p (range_with_len (a + 1) n)) (filter p (range_with_len (a + 1) n))))
     by true next later = next
     by false next later = later
 
@@ -58,24 +60,24 @@ one_later true k n h = omega arith
 one_later false k n h = omega (arith, h)
 
 -- one that passes is found
-found : (m : Module) (p : ℕ → Bool) (a n array : ℕ) → p array ≡ true → a ≤ array → array < a + n
-    → use_of (map (array_use m) (filter p (range_with_len a n))) array < length (map (array_use m) (filter p (range_with_len a n)))
-found m p a zero array passes low high = absurd (omega (arith, low, high))
-found m p a (suc n) array passes low high =
-    ⊎_elim here (λ other. by (p a) (found m p (a + 1) n array passes (omega (arith, low, other)) (omega (arith, high)))) (cases_eq a array)
+found : (merged : Merged) (p : ℕ → Bool) (a n array : ℕ) → p array ≡ true → a ≤ array → array < a + n
+    → use_of (map (array_use merged) (filter p (range_with_len a n))) array < length (map (array_use merged) (filter p (range_with_len a n)))
+found merged p a zero array passes low high = absurd (omega (arith, low, high))
+found merged p a (suc n) array passes low high =
+    ⊎_elim here (λ other. by (p a) (found merged p (a + 1) n array passes (omega (arith, low, other)) (omega (arith, high)))) (cases_eq a array)
   where
     rest : List ℕ
     rest = filter p (range_with_len (a + 1) n)
 
-    here : a ≡ array → use_of (map (array_use m) (cond (p a) (a ∷ rest) rest)) array < length (map (array_use m) (cond (p a) (a ∷ rest) rest))
+    here : a ≡ array → use_of (map (array_use merged) (cond (p a) (a ∷ rest) rest)) array < length (map (array_use merged) (cond (p a) (a ∷ rest) rest))
     here same =
         let test : p a ≡ true = ap p same ∙ passes in
-        let first : use_of (map (array_use m) (a ∷ rest)) array ≡ 0 = grind (arith, nat_tests) in
+        let first : use_of (map (array_use merged) (a ∷ rest)) array ≡ 0 = grind (arith, nat_tests) in
         rw test (omega (arith, first))
 
-    by : (b : Bool) → use_of (map (array_use m) rest) array < length (map (array_use m) rest)
-        → use_of (map (array_use m) (cond b (a ∷ rest) rest)) array < length (map (array_use m) (cond b (a ∷ rest) rest))
-    by true h = one_later (eqb a array) (use_of (map (array_use m) rest) array) (length (map (array_use m) rest)) h
+    by : (b : Bool) → use_of (map (array_use merged) rest) array < length (map (array_use merged) rest)
+        → use_of (map (array_use merged) (cond b (a ∷ rest) rest)) array < length (map (array_use merged) (cond b (a ∷ rest) rest))
+    by true h = one_later (eqb a array) (use_of (map (array_use merged) rest) array) (length (map (array_use merged) rest)) h
     by false h = h
 
 -- ---- the arrays of a body
@@ -98,15 +100,16 @@ array_named (t ∷ ts) (suc i) s array here is =
     list_any-append (nat_eq array) (arrays_in t) (flat_map arrays_in ts)
     ∙ ap (λ b. list_any (nat_eq array) (arrays_in t) || b) (array_named ts i s array here is) ∙ or_true (list_any (nat_eq array) (arrays_in t))
 
-pub use_found : (m : Module) (f : Function) (i : ℕ) (s : Statement) (array : ℕ) → slice_get f.body i ≡ Some s → arrays_in s ≡ array ∷ [] → array < length m.arrays
-    → use_of (map (array_use m) (arrays_of m f)) array < length (map (array_use m) (arrays_of m f))
-use_found m f i s array here is lt = found m (names_array f) 0 (length m.arrays) array (array_named f.body i s array here is) (omega arith) (omega (arith, lt))
+pub use_found : (p : Program) (merged : Merged) (f : Function) (i : ℕ) (s : Statement) (array : ℕ) → slice_get f.body i ≡ Some s → arrays_in s ≡ array ∷ [] → array < length p.arrays
+    → use_of (map (array_use merged) (arrays_of (module_of p) f)) array < length (map (array_use merged) (arrays_of (module_of p) f))
+use_found p merged f i s array here is lt =
+    found merged (names_array f) 0 (length p.arrays) array (array_named f.body i s array here is) (omega arith) (omega (arith, lt))
 
-pub arrays_ascend : (m : Module) (f : Function) → Ascends (map (array_use m) (arrays_of m f))
-arrays_ascend m f = ascend m (names_array f) 0 (length m.arrays)
+pub arrays_ascend : (p : Program) (merged : Merged) (f : Function) → Ascends (map (array_use merged) (arrays_of (module_of p) f))
+arrays_ascend p merged f = ascend merged (names_array f) 0 (length p.arrays)
 
-pub arrays_few : (m : Module) (f : Function) → length (map (array_use m) (arrays_of m f)) ≤ length m.arrays
-arrays_few m f = omega (arith, length-map (arrays_of m f) (array_use m), few_of_range (names_array f) 0 (length m.arrays))
+pub arrays_few : (p : Program) (merged : Merged) (f : Function) → length (map (array_use merged) (arrays_of (module_of p) f)) ≤ length p.arrays
+arrays_few p merged f = omega (arith, length-map (arrays_of (module_of p) f) (array_use merged), few_of_range (names_array f) 0 (length p.arrays))
 
-pub arrays_known : (m : Module) (f : Function) → All (λ a. a < length m.arrays) (arrays_of m f)
-arrays_known m f = within_range (names_array f) 0 (length m.arrays) (length m.arrays) (omega arith)
+pub arrays_known : (p : Program) (f : Function) → All (λ a. a < length p.arrays) (arrays_of (module_of p) f)
+arrays_known p f = within_range (names_array f) 0 (length p.arrays) (length p.arrays) (omega arith)

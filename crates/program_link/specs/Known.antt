@@ -1,23 +1,32 @@
--- What the code keeps of a module while it is linked.
-use Rattle.std.specs.Prelude.{◌≡◌, ◌<◌, ◌^◌, length}
+-- What the code keeps of a program while it is linked.
+use Rattle.std.specs.Prelude.{◌<◌, ◌≤◌, ◌^◌, ◌++◌, ℕ, List, length, map, All, decimal}
+use Rattle.std.specs.List.{range_with_len}
 use Rattle.elf_container.specs.declared.relocatable.RelocObject.{RelocObject}
 use Rattle.elf_container.specs.Relocatable.{IsObject, ObjectFits}
-use Rattle.gimple_ir.specs.declared.types.Module.{Module}
-use Rattle.gimple_ir.specs.declared.summary.Edge.{Edge}
+use Rattle.gimple_ir.specs.declared.merged.Merged.{Merged}
+use Rattle.gimple_ir.specs.Programs.{IsIdentifier}
+use Rattle.final_link.specs.Arrays.{array_symbol}
 use Rattle.final_link.specs.Members.{HasFrame}
-use Rattle.program_link.specs.declared.symbols.Symbols.{Symbols}
-use Rattle.program_link.specs.Numbers.{is_body, numbers_from, function_symbols, array_symbols}
 
--- the symbols of a module's items, and the numbers of its functions
-pub record AreSymbols (m : Module) (symbols : Symbols) : Type 0 where
-  pub functions : symbols.functions ≡ function_symbols m
-  pub numbers : symbols.numbers ≡ numbers_from is_body 0 m.functions
-  pub arrays : symbols.arrays ≡ array_symbols m
+-- NAME, a word, and a number
+abbrev pub symbol_by : List ℕ → List ℕ → ℕ → List ℕ
+symbol_by name word number = name ++ (word ++ decimal number)
 
--- a call to a function of the module
-pub record IsKnownEdge (m : Module) (e : Edge) : Type 0 where
-  pub callee : e.callee < length m.functions
-  pub few : length e.args < 2 ^ 32
+-- the symbols of all arrays
+abbrev pub array_symbols : Merged → List (List ℕ)
+array_symbols merged = map (array_symbol merged) (range_with_len 0 (length merged.arrays))
+
+-- arrays that have symbols
+pub record IsNumbered (merged : Merged) : Type 0 where
+  pub few : length merged.arrays < 2 ^ 32
+  pub names : All (λ a. IsIdentifier a.name) merged.arrays
+
+-- functions and arrays of which none is large
+pub record IsBounded (merged : Merged) : Type 0 where
+  pub few_functions : length merged.functions < 2 ^ 32
+  pub few_arrays : length merged.arrays < 2 ^ 32
+  pub functions : All (λ g. g.summary.code_bound ≤ 524288) merged.functions
+  pub arrays : All (λ a. a.item.length ≤ 67108864) merged.arrays
 
 -- an object that can be placed: one whose words begin with a frame
 pub record IsPart (o : RelocObject) : Type 0 where

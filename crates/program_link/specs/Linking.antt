@@ -10,7 +10,6 @@ use Rattle.follow_laws.specs.Direct.{direct_image}
 use Rattle.program_link.specs.declared.fault.LinkError.{LinkError}
 use Rattle.program_link.specs.declared.fault.LinkError.TheVariants.{Limit, NoMemory}
 use Rattle.program_link.specs.declared.fault.LimitFault.{LimitFault}
-use Rattle.program_link.specs.declared.fault.Quantity.{Quantity}
 use Rattle.program_link.specs.declared.fault.Quantity.TheVariants.{LinkFunctions, LinkCode, LinkData}
 use Rattle.program_link.specs.Versions.{functions_of}
 

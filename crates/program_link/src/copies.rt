@@ -1,7 +1,7 @@
-//! Copies of statements and arrays.
+//! Copies of statements.
 ghost use Rattle.std.specs.Prelude.{◌≡◌, IfOk};
 
-use gimple_ir::{Array, List, NoMemory, Statement};
+use gimple_ir::{List, NoMemory, Statement};
 use std::alloc::Global;
 
 fn statement(statement: &Statement) -> Result<Statement, NoMemory>
@@ -93,17 +93,4 @@ pub fn body(alloc: Global, statements: &[Statement]) -> Result<List<Statement>, 
         copies.push(statement(each)?)?;
     }
     Ok(List::from_vec(copies))
-}
-
-/// An equal array.
-pub fn array(array: &Array) -> Result<Array, NoMemory>
-    ensures { IfOk result (λ copy. copy ≡ array.now) }
-{
-    Ok(Array {
-        name: array.name.copy()?,
-        linkage: array.linkage,
-        element: array.element,
-        length: array.length,
-        initial: array.initial.copy()?,
-    })
 }

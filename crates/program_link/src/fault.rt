@@ -28,7 +28,7 @@ pub struct LimitFault {
 #[derive(Clone, Copy, Debug, PartialEq, Eq, Error)]
 pub enum LinkError {
     /// The program passes a limit; the first.
-    #[error("{0}")]
+    #[error("{0:?}")]
     Limit(LimitFault),
     #[error("out of memory")]
     NoMemory,

@@ -1,19 +1,19 @@
-//! The image of a module that is a whole program by itself.
+//! The image of a whole program whose summaries are known: one version of each function that is needed, under the plan of these
+//! summaries.
 //!
-//! In specs/, `Numbers` has the numbers and symbols of functions and arrays, `Lowering` the plan, the arrays and the versions that a
-//! module becomes, `Objects` the relocatable object of a version, and `Linking` which modules have an image, within which limits, and
-//! what it is.
+//! In specs/, `Versions` has the versions of a plan as the back end takes them, `Objects` the relocatable object of a version, `Linking`
+//! the limits of a link and what the image is, and `Laws` what is known of the versions, as the layers above use it.
 #![tactic(auto)]
 
 mod copies;
 mod fault;
+mod laws;
 mod limits;
 mod linking;
-mod lowering;
 mod members;
 mod objects;
 mod symbols;
-mod whole;
 
-pub use fault::{LimitFault, LinkError, LinkFault, Quantity};
-pub use linking::link_module;
+pub use fault::{LimitFault, LinkError, Quantity};
+pub use laws::versioned;
+pub use linking::link_program;

@@ -1,14 +1,11 @@
 //! The limits of a link.
-ghost use Rattle.std.specs.Prelude.{◌≡◌, [], ◌∷◌, length, filter};
-ghost use Rattle.gimple_ir.specs.Programs.{IsChecked};
+ghost use Rattle.std.specs.Prelude.{◌≡◌, [], ◌∷◌};
 ghost use Rattle.final_link.specs.Arrays.{element_size, array_size};
-ghost use Rattle.program_link.specs.Numbers.{is_body};
+ghost use Rattle.program_link.specs.Known.{IsBounded};
 ghost use Rattle.program_link.specs.Linking.{code_sum, data_sum, limits_of, first_passed};
 
 use crate::fault::{LimitFault, Quantity};
-use crate::symbols::{is_body, is_storage};
-use gimple_checks::code_bound;
-use gimple_ir::{Array, ElementType, Module, ScalarType};
+use gimple_ir::{Array, ElementType, Merged, ScalarType};
 
 const FUNCTIONS: u64 = 20_000;
 
@@ -16,27 +13,13 @@ const CODE_BYTES: u64 = 32 << 20;
 
 const DATA_BYTES: u64 = 64 << 20;
 
-fn function_count(source: &Module) -> u64
-    ensures { result ≡ length (filter is_body source.now.functions) }
-{
-    let mut count = 0;
-    for function in source.functions.as_slice() {
-        if is_body(function) {
-            count += 1;
-        }
-    }
-    count
-}
-
-fn code_sum(source: &Module) -> u64
-    requires { IsChecked source.now }
-    ensures { result ≡ code_sum source.now }
+fn code_sum(merged: &Merged) -> u64
+    requires { IsBounded merged.now }
+    ensures { result ≡ code_sum merged.now }
 {
     let mut sum = 0;
-    for function in source.functions.as_slice() {
-        if is_body(function) {
-            sum += code_bound(function);
-        }
+    for function in merged.functions.as_slice() {
+        sum += function.summary.code_bound;
     }
     sum
 }
@@ -57,15 +40,13 @@ fn array_size(array: &Array) -> u64
     (u64::from(array.length) * element_size(array.element) + 7) / 8 * 8
 }
 
-fn data_sum(source: &Module) -> u64
-    requires { IsChecked source.now }
-    ensures { result ≡ data_sum source.now }
+fn data_sum(merged: &Merged) -> u64
+    requires { IsBounded merged.now }
+    ensures { result ≡ data_sum merged.now }
 {
     let mut sum = 0;
-    for array in source.arrays.as_slice() {
-        if is_storage(array) {
-            sum += array_size(array);
-        }
+    for array in merged.arrays.as_slice() {
+        sum += array_size(&array.item);
     }
     sum
 }
@@ -84,13 +65,17 @@ fn passed(quantity: Quantity, number: u64, limit: u64) -> Option<LimitFault>
     }
 }
 
-/// The first limit that a module passes: on its functions, their code, and its arrays.
-pub fn first_passed(source: &Module) -> Option<LimitFault>
-    requires { IsChecked source.now }
-    ensures { result ≡ first_passed (limits_of source.now) }
+/// The first limit that a program passes: on its functions, their code, and its arrays.
+pub fn first_passed(merged: &Merged) -> Option<LimitFault>
+    requires { IsBounded merged.now }
+    ensures { result ≡ first_passed (limits_of merged.now) }
 {
-    let functions = passed(Quantity::LinkFunctions, function_count(source), FUNCTIONS);
-    let code = passed(Quantity::LinkCode, code_sum(source), CODE_BYTES);
-    let data = passed(Quantity::LinkData, data_sum(source), DATA_BYTES);
+    let functions = passed(
+        Quantity::LinkFunctions,
+        merged.functions.len() as u64,
+        FUNCTIONS,
+    );
+    let code = passed(Quantity::LinkCode, code_sum(merged), CODE_BYTES);
+    let data = passed(Quantity::LinkData, data_sum(merged), DATA_BYTES);
     functions.or(code).or(data)
 }

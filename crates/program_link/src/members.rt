@@ -1,18 +1,17 @@
-//! The member that a function becomes: its body, with the symbols of what it names.
-ghost use Rattle.std.specs.Prelude.{◌≡◌, ◌<◌, length, map, slice_get, All, IfOk, IfSome};
-ghost use Rattle.gimple_ir.specs.Programs.{IsChecked};
-ghost use Rattle.func_summary.specs.Summaries.{summary_of};
+//! The member that a version becomes: its function's body, with the symbols of what it names.
+ghost use Rattle.std.specs.Prelude.{◌≡◌, ◌<◌, length, map, All, IfOk};
+ghost use Rattle.func_summary.specs.Summarised.{IsSummarised};
+ghost use Rattle.ipa_plan.specs.Laws.{IsPlanned, IsVersionIn};
 ghost use Rattle.ipa_transform.specs.Versioned.{versioned_of};
 ghost use Rattle.ipa_transform.specs.Members.{IsMember};
 ghost use Rattle.rv64_select.specs.Versioned.{IsVersioned};
-ghost use Rattle.program_link.specs.Lowering.{array_use, call_use, member_of};
-ghost use Rattle.program_link.specs.Known.{AreSymbols, IsKnownEdge};
+ghost use Rattle.program_link.specs.Known.{array_symbols};
+ghost use Rattle.program_link.specs.Versions.{array_use, call_use, function_at, member_of};
 
 use crate::copies;
-use crate::lowering::{all_of, bindings};
-use crate::symbols::{Symbols, symbol};
 use gimple_ir::{
-    ArrayUse, CallUse, Edge, List, Member, Module, NoMemory, ScalarType, Summary, Variable,
+    ArrayUse, CallPlan, CallUse, List, Member, Merged, Name, NoMemory, Plan, Program, ScalarType,
+    Variable, Version,
 };
 use std::alloc::Global;
 
@@ -28,75 +27,68 @@ fn variables(alloc: Global, variables: &[Variable]) -> Result<List<List<ScalarTy
 
 fn arrays(
     alloc: Global,
-    source: &Module,
-    symbols: &Symbols,
+    merged: &Merged,
+    symbols: &List<Name>,
     named: &[u32],
 ) -> Result<List<ArrayUse>, NoMemory>
-    requires symbols { AreSymbols source.now symbols.now }
-    requires known { All (λ a. a < length source.now.arrays) named.now }
-    ensures { IfOk result (λ uses. uses ≡ map (array_use source.now) named.now) }
+    requires symbols { symbols.now ≡ array_symbols merged.now }
+    requires known { All (λ a. a < length merged.now.arrays) named.now }
+    ensures { IfOk result (λ uses. uses ≡ map (array_use merged.now) named.now) }
 {
     let mut uses = Vec::new(alloc);
     for array in named {
         let place = *array as usize;
         uses.push(ArrayUse {
             local: *array,
-            symbol: symbols.arrays.get(place).copy()?,
-            element: source.arrays.get(place).element,
+            symbol: symbols.get(place).copy()?,
+            element: merged.arrays.get(place).item.element,
         })?;
     }
     Ok(List::from_vec(uses))
 }
 
-fn calls(
-    alloc: Global,
-    source: &Module,
-    symbols: &Symbols,
-    edges: &[Edge],
-) -> Result<List<CallUse>, NoMemory>
-    requires symbols { AreSymbols source.now symbols.now }
-    requires known { All (IsKnownEdge source.now) edges.now }
-    ensures { IfOk result (λ uses. uses ≡ map (call_use source.now) edges.now) }
+fn calls(alloc: Global, plan: &Plan, calls: &[CallPlan]) -> Result<List<CallUse>, NoMemory>
+    requires { All (λ c. c.target < length plan.now.versions) calls.now }
+    ensures { IfOk result (λ uses. uses ≡ map (call_use plan.now) calls.now) }
 {
     let mut uses = Vec::new(alloc);
-    for edge in edges {
+    for call in calls {
         uses.push(CallUse {
-            symbol: symbols.functions.get(edge.callee as usize).copy()?,
-            kept: all_of(alloc, edge.args.len() as u32)?,
+            symbol: plan.versions.get(call.target as usize).symbol.copy()?,
+            kept: call.kept.copy()?,
         })?;
     }
     Ok(List::from_vec(uses))
 }
 
-/// The member that the function at a place becomes, which has this number and summary.
+/// The member that a version of the plan becomes.
 pub fn member(
     alloc: Global,
-    source: &Module,
-    symbols: &Symbols,
-    place: u32,
-    number: u32,
-    summary: &Summary,
+    program: &Program,
+    merged: &Merged,
+    plan: &Plan,
+    symbols: &List<Name>,
+    version: &Version,
 ) -> Result<Member, NoMemory>
-    requires checked { IsChecked source.now }
-    requires symbols { AreSymbols source.now symbols.now }
-    requires place { place < length source.now.functions }
-    requires summary { IfSome (slice_get source.now.functions place) (λ f. summary.now ≡ summary_of source.now f) }
-    ensures value { IfOk result (λ member. IfSome (slice_get source.now.functions place) (λ f. member ≡ member_of source.now number f)) }
+    requires summarised { IsSummarised program.now merged.now }
+    requires version { IsVersionIn merged.now plan.now version.now }
+    requires symbols { symbols.now ≡ array_symbols merged.now }
+    ensures value { IfOk result (λ member. member ≡ member_of program.now merged.now plan.now version.now (function_at program.now version.now.function)) }
     ensures member { IfOk result IsMember }
     ensures versioned { IfOk result (λ member. IsVersioned (versioned_of member)) }
 {
-    let function = source.functions.get(place as usize);
-    let components = summary.params.len() as u32;
+    let function = program.functions.get(version.function as usize);
+    let summary = &merged.functions.get(version.function as usize).summary;
     let labels = function.labels.len() as u32;
     Ok(Member {
-        symbol: symbol(alloc, &function.name, ".", number)?,
+        symbol: version.symbol.copy()?,
         parameters: function.parameters,
         variables: variables(alloc, function.variables.as_slice())?,
-        bindings: bindings(alloc, components)?,
-        result: true,
+        bindings: version.bindings.copy()?,
+        result: version.result,
         labels,
-        arrays: arrays(alloc, source, symbols, summary.arrays.as_slice())?,
-        calls: calls(alloc, source, symbols, summary.edges.as_slice())?,
+        arrays: arrays(alloc, merged, symbols, summary.arrays.as_slice())?,
+        calls: calls(alloc, plan, version.calls.as_slice())?,
         body: copies::body(alloc, function.body.as_slice())?,
     })
 }

@@ -1,101 +1,95 @@
-use Rattle.std.proofs.Common.{◌≡◌, ◌<◌, ◌^◌, sym, ap, ◌∙◌, subst, map, length, arith}
+use Rattle.std.proofs.Common.{◌<◌, length, map, sym, ap, ◌∙◌, subst, arith}
 use Rattle.std.specs.Prelude.{All}
 use Rattle.gimple_ir.specs.declared.types.Variable.{Variable}
-use Rattle.gimple_ir.specs.declared.lattice.Binding.TheVariants.{Arg}
-use Rattle.gimple_ir.specs.declared.unit.Member.{Member}
-use Rattle.ipa_transform.specs.Members.{IsMember}
-use Rattle.ipa_transform.specs.Versioned.{versioned_of}
-use Rattle.rv64_select.specs.Versioned.{IsVersioned}
-use Rattle.program_link.specs.Lowering.{all_of, array_use, call_use, member_of}
-use Rattle.program_link.proofs.Listing.{of_some, to_some}
-use Rattle.program_link.proofs.Made.{member_made, params_count}
-use Rattle.program_link.proofs.Uses.{arrays_known}
-use Rattle.program_link.proofs.Fitting.{member_fits, version_fits}
+use Rattle.gimple_ir.specs.declared.plan.CallPlan.{CallPlan}
 use Rattle.gimple_ir.specs.declared.summary.Summary.{Summary}
-use Rattle.gimple_ir.specs.declared.types.Function.{Function}
-use Rattle.func_summary.specs.Summaries.{summary_of}
-use Rattle.program_link.specs.Known.{IsKnownEdge}
-use Rattle.program_link.proofs.Facts.{facts}
-use Rattle.program_link.proofs.Arguments.{edges_known}
-use Rattle.program_link.proofs.Naming.{function_named}
+use Rattle.gimple_ir.specs.declared.unit.Member.{Member}
+use Rattle.func_summary.proofs.Checked.{place_inside}
+use Rattle.ipa_transform.specs.Versioned.{versioned_of}
+use Rattle.ipa_transform.specs.Members.{IsMember}
+use Rattle.rv64_select.specs.Versioned.{IsVersioned}
+use Rattle.program_link.specs.Versions.{array_use, call_use}
+use Rattle.program_link.proofs.VersionFacts.{facts_at, version_facts}
+use Rattle.program_link.proofs.Fitting.{member_fits, version_fits}
+use Rattle.program_link.proofs.Made.{member_made, member_at}
+use Rattle.program_link.proofs.LinkLaws.{uses_known, targets_known}
 use Rattle.program_link.proofs.members.member.Goals as goal
 
-pub overflow_cast-components : goal.overflow_cast-components
-overflow_cast-components c =
-    let m = c.args.source.now in
-    let f = c.get-function.result.now in
-    let here = c.get-function.ensures in
-    let s = of_some (λ (g : Function). c.args.summary.now ≡ summary_of m g) m.functions c.args.place f here c.requires.summary in
-    omega (arith, c.len-components.ensures, params_count m f c.args.summary.now s, (facts m c.args.place f c.requires.checked here).parameters)
+pub get-function-requires : goal.get-function-requires
+get-function-requires c = (version_facts c.args.program.now c.args.merged.now c.args.plan.now c.args.version.now c.requires.summarised c.requires.version).1.inside
+
+pub get-requires : goal.get-requires
+get-requires c =
+    let version = c.requires.version in
+    place_inside c.args.merged.now.functions c.args.version.now.function version.function version.there
 
 pub overflow_cast-labels : goal.overflow_cast-labels
 overflow_cast-labels c =
-    omega (arith, c.len-labels.ensures, (facts c.args.source.now c.args.place c.get-function.result.now c.requires.checked c.get-function.ensures).few)
-
-pub symbol-requires : goal.symbol-requires
-symbol-requires c =
-    let here = c.get-function.ensures in
-    let f = c.get-function.result.now in
-    let small : c.args.number < 2 ^ 32 = omega (arith, c.ranges.number) in
-    function_named f.name c.args.number (facts c.args.source.now c.args.place f c.requires.checked here).stated.name small
+    let known = facts_at c.args.program.now c.args.merged.now c.args.plan.now c.args.version.now c.get-function.result.now c.requires.summarised c.requires.version c.get-function.ensures in
+    omega (arith, c.len-labels.ensures, known.facts.few)
 
 pub arrays-requires-clause-known : goal.arrays-requires-clause-known
 arrays-requires-clause-known c =
-    let m = c.args.source.now in
+    let p = c.args.program.now in
+    let merged = c.args.merged.now in
     let f = c.get-function.result.now in
-    let here = c.get-function.ensures in
-    let s = of_some (λ (g : Function). c.args.summary.now ≡ summary_of m g) m.functions c.args.place f here c.requires.summary in
-    subst (All (λ a. a < length m.arrays)) (sym (c.as_slice-2.ensures ∙ ap (λ (t : Summary). t.arrays) s)) (arrays_known m f)
+    let tells = c.requires.summarised.summaries c.args.version.now.function c.get.result.now f c.get.ensures c.get-function.ensures in
+    subst (All (λ a. a < length merged.arrays)) (sym (c.as_slice-2.ensures ∙ ap (λ (s : Summary). s.arrays) tells.summary)) (uses_known p merged f c.requires.summarised)
 
-pub calls-requires-clause-known : goal.calls-requires-clause-known
-calls-requires-clause-known c =
-    let m = c.args.source.now in
+pub calls-requires : goal.calls-requires
+calls-requires c =
+    let p = c.args.program.now in
+    let merged = c.args.merged.now in
+    let plan = c.args.plan.now in
+    let version = c.args.version.now in
     let f = c.get-function.result.now in
-    let here = c.get-function.ensures in
-    let s = of_some (λ (g : Function). c.args.summary.now ≡ summary_of m g) m.functions c.args.place f here c.requires.summary in
-    subst (All (IsKnownEdge m)) (sym (c.as_slice-3.ensures ∙ ap (λ (t : Summary). t.edges) s)) (edges_known m c.args.place f c.requires.checked here)
+    let known = facts_at p merged plan version f c.requires.summarised c.requires.version c.get-function.ensures in
+    subst (All (λ (x : CallPlan). x.target < length plan.versions)) (sym c.as_slice-3.ensures) (targets_known p merged plan version f known)
 
 pub returns-clause-value : goal.returns-clause-value
 returns-clause-value c =
-    let m = c.args.source.now in
+    let p = c.args.program.now in
+    let merged = c.args.merged.now in
+    let plan = c.args.plan.now in
+    let version = c.args.version.now in
     let f = c.get-function.result.now in
-    let here = c.get-function.ensures in
-    let s = of_some (λ (g : Function). c.args.summary.now ≡ summary_of m g) m.functions c.args.place f here c.requires.summary in
-    let count = c.len-components.ensures ∙ params_count m f c.args.summary.now s in
+    let known = facts_at p merged plan version f c.requires.summarised c.requires.version c.get-function.ensures in
+    let tells = c.requires.summarised.summaries version.function c.get.result.now f c.get.ensures c.get-function.ensures in
     let variables = c.in_ok-variables.ensures ∙ ap (map (λ (v : Variable). v.types)) c.as_slice.ensures in
-    let bindings = c.in_ok-bindings.ensures ∙ ap (λ n. map Arg (all_of n)) count in
-    let arrays = c.in_ok-arrays.ensures ∙ ap (map (array_use m)) (c.as_slice-2.ensures ∙ ap (λ (t : Summary). t.arrays) s) in
-    let calls = c.in_ok-calls.ensures ∙ ap (map (call_use m)) (c.as_slice-3.ensures ∙ ap (λ (t : Summary). t.edges) s) in
+    let arrays = c.in_ok-arrays.ensures ∙ ap (map (array_use merged)) (c.as_slice-2.ensures ∙ ap (λ (s : Summary). s.arrays) tells.summary) in
+    let calls = c.in_ok-calls.ensures ∙ ap (map (call_use plan)) c.as_slice-3.ensures in
     let body = c.in_ok-body.ensures ∙ c.as_slice-4.ensures in
-    let made = member_made m c.args.number f _ _ _ _ _ _ _ c.in_ok-symbol.ensures variables bindings c.len-labels.ensures arrays calls body in
-    to_some (λ (g : Function). _ ≡ member_of m c.args.number g) m.functions c.args.place f here made
+    member_made p merged plan version f _ _ _ _ _ _ _ c.in_ok-copy.ensures variables c.in_ok-copy-2.ensures c.len-labels.ensures arrays calls body
+    ∙ member_at p merged plan version f known.is
 
 pub returns-clause-member : goal.returns-clause-member
 returns-clause-member c =
-    let m = c.args.source.now in
+    let p = c.args.program.now in
+    let merged = c.args.merged.now in
+    let plan = c.args.plan.now in
+    let version = c.args.version.now in
     let f = c.get-function.result.now in
-    let here = c.get-function.ensures in
-    let s = of_some (λ (g : Function). c.args.summary.now ≡ summary_of m g) m.functions c.args.place f here c.requires.summary in
-    let count = c.len-components.ensures ∙ params_count m f c.args.summary.now s in
+    let known = facts_at p merged plan version f c.requires.summarised c.requires.version c.get-function.ensures in
+    let tells = c.requires.summarised.summaries version.function c.get.result.now f c.get.ensures c.get-function.ensures in
     let variables = c.in_ok-variables.ensures ∙ ap (map (λ (v : Variable). v.types)) c.as_slice.ensures in
-    let bindings = c.in_ok-bindings.ensures ∙ ap (λ n. map Arg (all_of n)) count in
-    let arrays = c.in_ok-arrays.ensures ∙ ap (map (array_use m)) (c.as_slice-2.ensures ∙ ap (λ (t : Summary). t.arrays) s) in
-    let calls = c.in_ok-calls.ensures ∙ ap (map (call_use m)) (c.as_slice-3.ensures ∙ ap (λ (t : Summary). t.edges) s) in
+    let arrays = c.in_ok-arrays.ensures ∙ ap (map (array_use merged)) (c.as_slice-2.ensures ∙ ap (λ (s : Summary). s.arrays) tells.summary) in
+    let calls = c.in_ok-calls.ensures ∙ ap (map (call_use plan)) c.as_slice-3.ensures in
     let body = c.in_ok-body.ensures ∙ c.as_slice-4.ensures in
-    let made = member_made m c.args.number f _ _ _ _ _ _ _ c.in_ok-symbol.ensures variables bindings c.len-labels.ensures arrays calls body in
-    subst IsMember (sym made) (member_fits m c.args.place c.args.number f c.requires.checked here)
+    let made = member_made p merged plan version f _ _ _ _ _ _ _ c.in_ok-copy.ensures variables c.in_ok-copy-2.ensures c.len-labels.ensures arrays calls body in
+    subst IsMember (sym made) (member_fits p merged plan version f c.requires.summarised known)
 
 pub returns-clause-versioned : goal.returns-clause-versioned
 returns-clause-versioned c =
-    let m = c.args.source.now in
+    let p = c.args.program.now in
+    let merged = c.args.merged.now in
+    let plan = c.args.plan.now in
+    let version = c.args.version.now in
     let f = c.get-function.result.now in
-    let here = c.get-function.ensures in
-    let s = of_some (λ (g : Function). c.args.summary.now ≡ summary_of m g) m.functions c.args.place f here c.requires.summary in
-    let count = c.len-components.ensures ∙ params_count m f c.args.summary.now s in
+    let known = facts_at p merged plan version f c.requires.summarised c.requires.version c.get-function.ensures in
+    let tells = c.requires.summarised.summaries version.function c.get.result.now f c.get.ensures c.get-function.ensures in
     let variables = c.in_ok-variables.ensures ∙ ap (map (λ (v : Variable). v.types)) c.as_slice.ensures in
-    let bindings = c.in_ok-bindings.ensures ∙ ap (λ n. map Arg (all_of n)) count in
-    let arrays = c.in_ok-arrays.ensures ∙ ap (map (array_use m)) (c.as_slice-2.ensures ∙ ap (λ (t : Summary). t.arrays) s) in
-    let calls = c.in_ok-calls.ensures ∙ ap (map (call_use m)) (c.as_slice-3.ensures ∙ ap (λ (t : Summary). t.edges) s) in
+    let arrays = c.in_ok-arrays.ensures ∙ ap (map (array_use merged)) (c.as_slice-2.ensures ∙ ap (λ (s : Summary). s.arrays) tells.summary) in
+    let calls = c.in_ok-calls.ensures ∙ ap (map (call_use plan)) c.as_slice-3.ensures in
     let body = c.in_ok-body.ensures ∙ c.as_slice-4.ensures in
-    let made = member_made m c.args.number f _ _ _ _ _ _ _ c.in_ok-symbol.ensures variables bindings c.len-labels.ensures arrays calls body in
-    subst (λ (t : Member). IsVersioned (versioned_of t)) (sym made) (version_fits m c.args.place c.args.number f c.requires.checked here)
+    let made = member_made p merged plan version f _ _ _ _ _ _ _ c.in_ok-copy.ensures variables c.in_ok-copy-2.ensures c.len-labels.ensures arrays calls body in
+    subst (λ (t : Member). IsVersioned (versioned_of t)) (sym made) (version_fits p merged plan version f c.requires.summarised known)

@@ -1,32 +1,33 @@
-use Rattle.std.proofs.Common.{◌<◌, ◌^◌, subst, sym, arith, codes}
-use Rattle.gimple_ir.specs.declared.types.Array.{Array}
+use Rattle.std.proofs.Common.{◌<◌, ◌^◌, [], ◌++◌, length, get_or, sym, ap, ◌∙◌, subst, arith}
+use Rattle.std.specs.Prelude.{codes, decimal}
+use Rattle.std.specs.Option.{option_map_or}
+use Rattle.gimple_ir.specs.declared.merged.MergedArray.{MergedArray}
 use Rattle.gimple_ir.specs.Programs.{IsIdentifier}
-use Rattle.program_link.specs.Numbers.{is_storage}
-use Rattle.program_link.proofs.Counting.{few_pass, counted, symbols_more}
+use Rattle.final_link.specs.Arrays.{array_symbol}
 use Rattle.program_link.proofs.Naming.{array_named}
-use Rattle.program_link.proofs.symbols.array_symbols.Goals.{then-is_storage, else-is_storage}
+use Rattle.program_link.proofs.Listing.{element_at, numbered_more}
 use Rattle.program_link.proofs.symbols.array_symbols.Goals as goal
 
-pub symbol-requires : goal.symbol-requires
-symbol-requires c =
+pub array_symbol-requires : goal.array_symbol-requires
+array_symbol-requires c =
+    let arrays = c.args.merged.now.arrays in
+    let i = c.loop-number.number in
     let item = c.array-item.result in
-    let small : c.loop-array.number < 2 ^ 32 = omega (arith, few_pass is_storage c.args.arrays.now c.loop-array.array-index, c.loop-array.invariant.0, c.loop-array-test.true, c.requires.few) in
-    let name = subst (λ (x : Array). IsIdentifier x.name) (sym c.array-item.is) (c.requires.names c.loop-array.array-index item c.loop-array-test.true) in
-    array_named item.name c.loop-array.number name small
+    let same = c.as_slice-array-items.ensures in
+    let inside : i < length arrays = omega (arith, c.loop-number-test.true, ap length same) in
+    let is = c.array-item.is ∙ ap (λ xs. get_or xs i item) same in
+    let small : i < 2 ^ 32 = omega (arith, inside, c.requires.few) in
+    array_named item.name i (subst (λ (x : MergedArray). IsIdentifier x.name) (sym is) (c.requires.names i item inside)) small
 
-pub overflow_add-number : goal.overflow_add-number
-overflow_add-number c = omega (arith, few_pass is_storage c.args.arrays.now c.loop-array.array-index, c.loop-array.invariant.0, c.loop-array-test.true, c.requires.few)
-
-pub loop-array-preserved : goal.loop-array-preserved
-loop-array-preserved c =
-    let items = c.args.arrays.now in
-    let i = c.loop-array.array-index in
+pub loop-number-preserved : goal.loop-number-preserved
+loop-number-preserved c =
+    let merged = c.args.merged.now in
+    let arrays = merged.arrays in
+    let i = c.loop-number.number in
     let item = c.array-item.result in
-    let more = counted is_storage items i item c.is_storage.result c.loop-array-test.true c.array-item.is c.is_storage.ensures in (
-      elim c.if-is_storage.branch [
-        | then-is_storage w ↦ grind (arith, more, c.loop-array.invariant.0, w.if-is_storage, w.number-is)
-        | else-is_storage w ↦ grind (arith, more, c.loop-array.invariant.0, w.if-is_storage, w.number-is)
-      ],
-      symbols_more (λ (x : Array). x.name) (codes ".a") is_storage items i item c.loop-array.number _ c.loop-array.symbols _ c.loop-array-test.true c.array-item.is
-          c.loop-array.invariant.0 c.in_ok-symbol.ensures c.loop-array.invariant.1 c.in_ok-push.ensures.ok,
-    )
+    let same = c.as_slice-array-items.ensures in
+    let inside : i < length arrays = omega (arith, c.loop-number-test.true, ap length same) in
+    let is = c.array-item.is ∙ ap (λ xs. get_or xs i item) same in
+    let here = element_at arrays i item inside is in
+    let made = c.in_ok-array_symbol.ensures ∙ sym (ap (λ o. option_map_or (λ (a : MergedArray). a.name) o [] ++ (codes ".a" ++ decimal i)) here) in
+    numbered_more (array_symbol merged) i c.in_ok-array_symbol.field-0 c.loop-number.symbols c.push.new.self made c.loop-number.invariant c.in_ok-push.ensures.ok

@@ -1,10 +1,7 @@
-use Rattle.std.proofs.Common.{◌≡◌, take, length, codes}
-use Rattle.std.specs.List.{filter}
-use Rattle.gimple_ir.specs.declared.types.Array.{Array}
-use Rattle.program_link.specs.Numbers.{is_storage, symbols_from}
+use Rattle.std.proofs.Common.{◌≡◌, map}
+use Rattle.std.specs.List.{range_with_len}
+use Rattle.final_link.specs.Arrays.{array_symbol}
 use Rattle.program_link.proofs.symbols.array_symbols.Given as goal
 
-abbrev pub invariant-loop-array : goal.invariant-loop-array
-invariant-loop-array l =
-    (l.number ≡ length (filter is_storage (take l.array-index l.arrays)))
-    × (l.symbols ≡ symbols_from (λ (x : Array). x.name) (codes ".a") is_storage 0 (take l.array-index l.arrays))
+abbrev pub invariant-loop-number : goal.invariant-loop-number
+invariant-loop-number l = l.symbols ≡ map (array_symbol l.merged) (range_with_len 0 l.number)

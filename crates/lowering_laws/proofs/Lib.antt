@@ -1,7 +1,8 @@
 pub mod Together
 pub mod Passing
-pub mod Numbered
+pub mod Lists
 pub mod Symbols
+pub mod Standing
 pub mod Named
 pub mod Bodies
 pub mod Uses

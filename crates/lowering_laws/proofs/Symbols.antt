@@ -1,13 +1,8 @@
--- Symbols that end in different numbers differ, so each is found at its place.
-use Rattle.std.proofs.Common.{◌≡◌, ◌+◌, ◌<◌, ◌≤◌, ◌^◌, ◌%◌, ℕ, zero, suc, List, [], ◌∷◌, ◌++◌, Bool, true, false, cond, Some, refl, sym, ap, ◌∙◌, subst, arith, append_assoc}
-use Rattle.std.specs.Prelude.{slice_get, decimal, codes}
-use Rattle.std.specs.Str.{bytes_eq}
+-- Symbols that end in different numbers differ.
+use Rattle.std.proofs.Common.{◌≡◌, ◌+◌, ◌<◌, ◌≤◌, ◌^◌, ◌%◌, ℕ, List, [], ◌∷◌, ◌++◌, sym, ap, ◌∙◌, subst, arith, append_assoc}
+use Rattle.std.specs.Prelude.{decimal, codes}
 use Rattle.std.specs.Str.Parse.{digits_value}
 use Rattle.std.proofs.lemmas.Fmt.{decimal_by_steps, decimal_is_IsNumeral}
-use Rattle.std.proofs.lemmas.Option.{none-some, same_Some}
-use Rattle.std.proofs.lemmas.Slice.Eq.{bytes_eq-Decides}
-use Rattle.program_link.specs.Numbers.{symbol_by}
-use Rattle.lowering_laws.specs.Linked.{place_among}
 
 -- ---- digits
 
@@ -58,6 +53,10 @@ dot low high = omega (arith, low)
 letter : NoDigit 97
 letter low high = omega (arith, high)
 
+-- a name, a word, and a number
+abbrev pub symbol_by : List ℕ → List ℕ → ℕ → List ℕ
+symbol_by name word number = name ++ (word ++ decimal number)
+
 -- symbols by this word are told apart by their numbers
 abbrev pub TellsApart : List ℕ → Type 0
 TellsApart word = (name other : List ℕ) (a b : ℕ) → a < 2 ^ 64 → b < 2 ^ 64 → symbol_by name word a ≡ symbol_by other word b → a ≡ b
@@ -71,27 +70,3 @@ arrays_apart name other a b ha hb same =
     same_decimal a b ha hb
     (same_digits 97 letter (name ++ (46 ∷ [])) (other ++ (46 ∷ [])) (decimal a) (decimal b) (digits_of a ha) (digits_of b hb)
     (append_assoc name (46 ∷ []) (97 ∷ decimal a) ∙ same ∙ sym (append_assoc other (46 ∷ []) (97 ∷ decimal b))))
-
--- ---- places
-
-pub found_at : (ss : List (List ℕ)) (symbol : List ℕ) (n : ℕ) → slice_get ss n ≡ Some symbol → ((j : ℕ) (s : List ℕ) → j < n → slice_get ss j ≡ Some s → s ≡ symbol → ⊥)
-    → place_among ss symbol ≡ n
-found_at [] symbol n here other = absurd (none-some symbol here)
-found_at (s ∷ ss) symbol zero here other =
-    ap (λ (b : Bool). cond b 0 (suc (place_among ss symbol))) ((bytes_eq-Decides s symbol).1 (same_Some s symbol here))
-found_at (s ∷ ss) symbol (suc n) here other =
-    by (bytes_eq s symbol) refl (found_at ss symbol n here (λ j t lt at. other (suc j) t (omega (arith, lt)) at))
-  where
-    by : (b : Bool) → bytes_eq s symbol ≡ b → place_among ss symbol ≡ n → cond b 0 (suc (place_among ss symbol)) ≡ suc n
-    by true test later = let first : 0 < suc n = omega arith in absurd (other 0 s first refl ((bytes_eq-Decides s symbol).0 test))
-    by false test later = ap suc later
-
--- a symbol that stands at the place of its number, where all do
-pub symbol_found : (word : List ℕ) → TellsApart word → (ss : List (List ℕ)) (name : List ℕ) (n : ℕ) → n < 2 ^ 32 → slice_get ss n ≡ Some (symbol_by name word n)
-    → ((j : ℕ) (s : List ℕ) → slice_get ss j ≡ Some s → (other : List ℕ) × (s ≡ symbol_by other word j)) → place_among ss (symbol_by name word n) ≡ n
-symbol_found word apart ss name n few here all =
-    found_at ss (symbol_by name word n) n here
-    (λ j s lt at same.
-    let own = all j s at in
-    let equal : j ≡ n = apart own.0 name j n (omega (arith, lt, few)) (omega (arith, few)) (sym own.1 ∙ same) in
-    omega (arith, lt, equal))

@@ -39,10 +39,13 @@ from_mapped {X} {Y} h xs i y here = by (slice_get xs i) refl (sym (slice_get-map
 pub first_passing : {X : Type 0} (p : X → Bool) (xs : List X) (i : ℕ) (x : X) → slice_get xs i ≡ Some x → p x ≡ true
     → (y : X) × (slice_get xs (position_or_len p xs) ≡ Some y) × (p y ≡ true)
 first_passing p [] i x here passes = absurd (none-some x here)
-first_passing {X} p (z ∷ zs) i x here passes = by (p z) refl i here
+first_passing {X} p (z ∷ zs) i x here passes = by (p z) refl (λ k at. first_passing p zs k x at passes) i here
   where
-    by : (b : Bool) → p z ≡ b → (k : ℕ) → slice_get (z ∷ zs) k ≡ Some x
+    by : (b : Bool) → p z ≡ b → ((k : ℕ) → slice_get zs k ≡ Some x → (y : X) × (slice_get zs (position_or_len p zs) ≡ Some y) × (p y ≡ true)) → (k : ℕ) → slice_get (z ∷ zs) k ≡ Some x
         → (y : X) × (slice_get (z ∷ zs) (cond (not b) (1 + position_or_len p zs) 0) ≡ Some y) × (p y ≡ true)
-    by true test k at = (z, refl, test)
-    by false test zero at = absurd (true≢false (sym passes ∙ ap p (sym (same_Some z x at)) ∙ test))
-    by false test (suc k) at = first_passing p zs k x at passes
+    by true test later k at = (z, refl, test)
+    by false test later zero at = absurd (true≢false (sym passes ∙ ap p (sym (same_Some z x at)) ∙ test))
+    by false test later (suc k) at =
+        let r = later k at in
+        let next : 1 + position_or_len p zs ≡ suc (position_or_len p zs) = omega arith in
+        (r.0, ap (slice_get (z ∷ zs)) next ∙ r.1, r.2)

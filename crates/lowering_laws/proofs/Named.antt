@@ -99,13 +99,14 @@ same_arrays p merged plan summarised = summarised.items
 -- one of those that pass a test, which passes it
 still_there : (z : ℕ → Bool) (k : ℕ) → z k ≡ true → (ks : List ℕ) → list_any (nat_eq k) ks ≡ true → list_any (nat_eq k) (filter z ks) ≡ true
 still_there z k passes [] h = h
-still_there z k passes (j ∷ ks) h = by (nat_eq k j) (z j) refl refl h
+still_there z k passes (j ∷ ks) h = by (nat_eq k j) (z j) refl refl (still_there z k passes ks) h
   where
-    by : (c b : Bool) → nat_eq k j ≡ c → z j ≡ b → (c || list_any (nat_eq k) ks) ≡ true → list_any (nat_eq k) (cond b (j ∷ filter z ks) (filter z ks)) ≡ true
-    by true true same test more = ap (λ (c : Bool). c || list_any (nat_eq k) (filter z ks)) same
-    by true false same test more = absurd (true≢false (sym passes ∙ ap z (same_number k j same) ∙ test))
-    by false true same test more = ap (λ (c : Bool). c || list_any (nat_eq k) (filter z ks)) same ∙ still_there z k passes ks more
-    by false false same test more = still_there z k passes ks more
+    by : (c b : Bool) → nat_eq k j ≡ c → z j ≡ b → (list_any (nat_eq k) ks ≡ true → list_any (nat_eq k) (filter z ks) ≡ true) → (c || list_any (nat_eq k) ks) ≡ true
+        → list_any (nat_eq k) (cond b (j ∷ filter z ks) (filter z ks)) ≡ true
+    by true true same test later more = ap (λ (c : Bool). c || list_any (nat_eq k) (filter z ks)) same
+    by true false same test later more = absurd (true≢false (sym passes ∙ ap z (same_number k j same) ∙ test))
+    by false true same test later more = ap (λ (c : Bool). c || list_any (nat_eq k) (filter z ks)) same ∙ later more
+    by false false same test later more = later more
 
 or_true : (a : Bool) → (a || true) ≡ true
 or_true true = refl

@@ -56,7 +56,7 @@ component_type p merged plan v f x ty here =
 
 pub operand_type : (p : Program) (merged : Merged) (plan : Plan) (v : Version) (f : Function) (a : Operand) (ty : ScalarType) → source.type_of (scope_of p f) a ≡ Some ty → type_of (version_at p merged plan v f) a ≡ ty
 operand_type p merged plan v f (Component x) ty here = component_type p merged plan v f x ty here
-operand_type p merged plan v f (Literal v) ty here = same_Some v.ty ty here
+operand_type p merged plan v f (Literal x) ty here = same_Some x.ty ty here
 
 pub alike_is : (x y : Option ScalarType) → alike x y ≡ true → (ty : ScalarType) × (x ≡ Some ty) × (y ≡ Some ty)
 alike_is (Some a) (Some b) h = (a, refl, ap (λ (t : ScalarType). Some t) (sym (same_type-is a b h)))
@@ -73,7 +73,7 @@ pub known_type : (p : Program) (merged : Merged) (plan : Plan) (v : Version) (f 
 known_type p merged plan v f (Component x) h =
     let r = there (component_types f.variables) x (below x (length (component_types f.variables)) h) in
     r.1 ∙ ap (λ (t : ScalarType). Some t) (sym (component_type p merged plan v f x r.0 r.1))
-known_type p merged plan v f (Literal v) h = refl
+known_type p merged plan v f (Literal x) h = refl
 
 -- ---- fields
 

@@ -1,5 +1,5 @@
 -- The arrays and functions that the statements of a version name, by the numbers that their symbols have.
-use Rattle.std.proofs.Common.{◌≡◌, ◌<◌, ℕ, suc, List, [], ◌∷◌, length, map, Bool, true, false, cond, eqb, eqb-true, Some, refl, sym, ap, ◌∙◌, arith}
+use Rattle.std.proofs.Common.{◌≡◌, ◌<◌, ℕ, suc, List, [], ◌∷◌, length, map, Bool, true, false, cond, eqb, eqb-true, Some, None, refl, ap, ◌∙◌, arith}
 use Rattle.std.specs.Prelude.{Option, slice_get, nat_eq}
 use Rattle.std.specs.List.{flat_map, list_all, list_any}
 use Rattle.std.specs.Option.{option_map_or}
@@ -13,7 +13,7 @@ use Rattle.gimple_ir.specs.declared.plan.Plan.{Plan}
 use Rattle.gimple_ir.specs.declared.merged.Merged.{Merged}
 use Rattle.gimple_ir.specs.declared.unit.ArrayUse.{ArrayUse}
 use Rattle.gimple_ir.specs.declared.unit.CallUse.{CallUse}
-use Rattle.gimple_ir.specs.Statements.{knows, knows_component, knows_operand, knows_array, counts_arguments, types_fit}
+use Rattle.gimple_ir.specs.Statements.{knows, knows_component, knows_operand, knows_array, counts_arguments, types_fit, statement_kind}
 use Rattle.gimple_ir.specs.Programs.{scope_of}
 use Rattle.gimple_meaning.specs.Source as source
 use Rattle.gimple_meaning.specs.Steps.{Code}
@@ -96,7 +96,7 @@ call_known p merged plan summarised planned v f k i to g args at =
 -- what the checks of a statement have found
 pub passed_at : (p : Program) (merged : Merged) (plan : Plan) (v : Version) (f : Function) → IsVersionFor p merged plan v f → (i : ℕ) (s : Statement) → slice_get f.body i ≡ Some s
     → (knows (scope_of p f) s ≡ true) × (counts_arguments (scope_of p f) s ≡ true) × (types_fit (scope_of p f) s ≡ true)
-passed_at p merged plan v f k i s at = statement-passes (scope_of p f) s (all_at _ f.body k.stated.statements i s at)
+passed_at p merged plan v f k i s at = statement-passes (scope_of p f) s (all_at (λ (t : Statement). statement_kind (scope_of p f) t ≡ None) f.body k.stated.statements i s at)
 
 known_in : (p : Program) (merged : Merged) (plan : Plan) → IsSummarised p merged → IsPlanned merged plan → (v : Version) (f : Function) → IsVersionFor p merged plan v f
     → (i : ℕ) (s : Statement) → slice_get f.body i ≡ Some s → knows (scope_of p f) s ≡ true → Known p merged plan v f (calls_before 0 f.body i) s

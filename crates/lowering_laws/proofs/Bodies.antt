@@ -34,7 +34,7 @@ use Rattle.ipa_plan.specs.Plans.{all_of}
 use Rattle.program_link.specs.Versions.{call_use}
 use Rattle.machine_laws.specs.Linked.{LinkedProgram, linked_step}
 use Rattle.lowering_laws.proofs.Lists.{there, mapped_at}
-use Rattle.lowering_laws.proofs.Standing.{IsVersionFor}
+use Rattle.program_link.proofs.VersionFacts.{VersionFacts}
 
 -- ---- places
 
@@ -164,16 +164,16 @@ pub record CallStands (plan : Plan) (v : Version) (f : Function) (n g : ℕ) (ar
   pub symbol : slice_get (map (λ (c : CallUse). c.symbol) (map (call_use plan) v.calls)) n ≡ Some target.symbol
   pub passed : picked (flat_map (operands_of (types_of f.variables)) args) (kept_of (map (call_use plan) v.calls) n) ≡ flat_map (source.operands_of f.variables) args
 
-pub call_stands : (p : Program) (merged : Merged) (plan : Plan) (v : Version) (f : Function) → IsVersionFor p merged plan v f → (i : ℕ) (to : Option ℕ) (g : ℕ) (args : List Arg)
+pub call_stands : (p : Program) (merged : Merged) (plan : Plan) (v : Version) (f : Function) → VersionFacts p merged plan v f → (i : ℕ) (to : Option ℕ) (g : ℕ) (args : List Arg)
     → slice_get f.body i ≡ Some (Call to g args) → CallStands plan v f (calls_before 0 f.body i) g args
 call_stands p merged plan v f k i to g args here =
     let n = calls_before 0 f.body i in
     let e = edge_at f 0 [] f.body i to g args here in
     let edge = edge_with f e.0 to g args in
-    let inside : n < length v.calls = omega (arith, place_inside (edges_of f) n edge e.1, k.calls) in
+    let inside : n < length v.calls = omega (arith, place_inside (edges_of f) n edge e.1, k.count) in
     let r = there v.calls n inside in
     let c = r.0 in
-    let call = k.each n edge c e.1 r.1 in
+    let call = k.calls n edge c e.1 r.1 in
     let uses : slice_get (map (call_use plan) v.calls) n ≡ Some (call_use plan c) = mapped_at (call_use plan) v.calls n c r.1 in
     let ops = flat_map (source.operands_of f.variables) args in
     let kept : kept_of (map (call_use plan) v.calls) n ≡ all_of (length ops) =

@@ -1,6 +1,6 @@
 -- Lists at their places, and the first element that passes a test.
 use Rattle.std.proofs.Common.{◌≡◌, ◌+◌, ◌<◌, ℕ, zero, suc, List, [], ◌∷◌, length, map, Bool, true, false, true≢false, cond, Some, None, refl, sym, ap, ◌∙◌, arith}
-use Rattle.std.specs.Prelude.{Option, not, slice_get, option_map, unwrap_or}
+use Rattle.std.specs.Prelude.{Option, not, slice_get, option_map}
 use Rattle.std.specs.List.{range_with_len, position_or_len}
 use Rattle.std.proofs.lemmas.Option.{none-some, same_Some, slice_get-map}
 
@@ -19,10 +19,6 @@ ranged h k (suc count) zero lt = let first : k ≡ k + 0 = omega arith in ap (λ
 ranged h k (suc count) (suc i) lt =
     let next : k + 1 + i ≡ k + suc i = omega arith in
     ranged h (k + 1) count i (omega (arith, lt)) ∙ ap (λ (n : ℕ). Some (h n)) next
-
-pub value_there : {X : Type 0} (o : Option X) (x other : X) → o ≡ Some x → unwrap_or o other ≡ x
-value_there None x other is = absurd (none-some x is)
-value_there (Some y) x other is = same_Some y x is
 
 pub mapped_at : {X Y : Type 0} (h : X → Y) (xs : List X) (i : ℕ) (x : X) → slice_get xs i ≡ Some x → slice_get (map h xs) i ≡ Some (h x)
 mapped_at h xs i x here = slice_get-map h xs i ∙ ap (option_map h) here

@@ -18,8 +18,8 @@ use Rattle.gimple_ir.specs.declared.merged.Merged.{Merged}
 use Rattle.gimple_ir.specs.declared.merged.MergedArray.{MergedArray}
 use Rattle.gimple_ir.specs.declared.versioned.VersionedFunction.{VersionedFunction}
 use Rattle.func_summary.specs.Summarised.{IsSummarised}
-use Rattle.func_summary.proofs.Checked.{both-true}
-use Rattle.ipa_plan.specs.Laws.{IsPlanned}
+use Rattle.func_summary.proofs.Checked.{both-true, all_at}
+use Rattle.ipa_plan.specs.Laws.{IsVersionIn, IsPlanned}
 use Rattle.final_link.specs.Arrays.{array_symbol, is_zeroed, stored_arrays, zeroed_arrays}
 use Rattle.final_link.specs.Symbols.{arrays_in_order}
 use Rattle.final_link.specs.Names.{value_of}
@@ -29,7 +29,7 @@ use Rattle.lowering_laws.specs.States.{function_of_version}
 use Rattle.lowering_laws.specs.Linked.{linked}
 use Rattle.lowering_laws.proofs.Lists.{mapped_at, from_mapped, first_passing}
 use Rattle.lowering_laws.proofs.Symbols.{functions_apart, arrays_apart}
-use Rattle.lowering_laws.proofs.Standing.{IsVersionFor, standing}
+use Rattle.lowering_laws.proofs.Standing.{standing}
 
 pub same_number : (a b : ℕ) → nat_eq a b ≡ true → a ≡ b
 same_number a b h = grind (arith, nat_tests)
@@ -46,7 +46,7 @@ same_function : (p : Program) (merged : Merged) (plan : Plan) → IsSummarised p
 same_function p merged plan summarised planned place other v w at also same =
     let k = standing p merged plan summarised planned place v at in
     let l = standing p merged plan summarised planned other w also in
-    functions_apart k.0.name l.0.name v.function w.function (omega (arith, k.1.few)) (omega (arith, l.1.few)) (sym k.1.symbol ∙ same ∙ l.1.symbol)
+    functions_apart k.0.name l.0.name v.function w.function (omega (arith, k.1.inside, summarised.few_functions)) (omega (arith, l.1.inside, summarised.few_functions)) (sym k.1.symbol ∙ same ∙ l.1.symbol)
 
 -- a version's symbol names one of the same function
 pub function_found : (p : Program) (merged : Merged) (plan : Plan) → IsSummarised p merged → IsPlanned merged plan → (place : ℕ) (v : Version) → slice_get plan.versions place ≡ Some v
@@ -73,8 +73,8 @@ pub begins_at : (p : Program) (merged : Merged) (plan : Plan) → IsSummarised p
 begins_at p merged plan summarised planned =
     let first = planned.main summarised.exported in
     let v = first.1 in
-    let k = standing p merged plan summarised planned first.0 v first.2 in
-    let r = first_passing (is_first_of merged.main) plan.versions first.0 v first.2 (passes v first.3 k.1.number) in
+    let known = all_at (IsVersionIn merged plan) plan.versions planned.versions first.0 v first.2 in
+    let r = first_passing (is_first_of merged.main) plan.versions first.0 v first.2 (passes v first.3 known.number) in
     let both = both-true (eqb r.0.function merged.main) (eqb r.0.number 0) r.2 in
     record { version = r.0; at = r.1; is = eqb-true r.0.function merged.main both.0 ∙ summarised.main }
   where

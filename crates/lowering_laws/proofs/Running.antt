@@ -26,7 +26,8 @@ use Rattle.lowering_laws.specs.States.{function_of_version, SameState}
 use Rattle.lowering_laws.specs.Linked.{linked, linked_start, linked_run}
 use Rattle.lowering_laws.proofs.Together.{SameAct, Alike, runs_alike}
 use Rattle.lowering_laws.proofs.Lists.{past_end, mapped_at}
-use Rattle.lowering_laws.proofs.Standing.{IsVersionFor, standing, version_same}
+use Rattle.program_link.proofs.VersionFacts.{VersionFacts}
+use Rattle.lowering_laws.proofs.Standing.{standing, version_same}
 use Rattle.lowering_laws.proofs.Named.{function_there, main_same, same_arrays}
 use Rattle.lowering_laws.proofs.Uses.{code_at, known}
 use Rattle.lowering_laws.proofs.Acting.{same_by, function_acts, function_receives, function_opens}
@@ -43,7 +44,7 @@ none_at p merged plan g at = (
 )
 
 -- a version, and its function
-some_at : (p : Program) (merged : Merged) (plan : Plan) (g : ℕ) (v : Version) (f : Function) → slice_get plan.versions g ≡ Some v → IsVersionFor p merged plan v f
+some_at : (p : Program) (merged : Merged) (plan : Plan) (g : ℕ) (v : Version) (f : Function) → slice_get plan.versions g ≡ Some v → VersionFacts p merged plan v f
     → (slice_get p.functions (function_of_version p plan g) ≡ Some f) × (slice_get (linked_codes (linked p merged plan)).functions g ≡ Some (code_at p merged plan v f))
 some_at p merged plan g v f at k = (
   ap (slice_get p.functions) (function_there p plan g v at) ∙ k.here,

@@ -49,10 +49,11 @@ use Rattle.machine_laws.specs.Typed.{TargetTyped, ArgumentsTyped, StepTyped, Fun
 use Rattle.lowering_laws.specs.States.{function_of_version}
 use Rattle.lowering_laws.specs.Linked.{result_type_of, linked}
 use Rattle.lowering_laws.proofs.Lists.{there, from_mapped, mapped_at, ranged}
-use Rattle.lowering_laws.proofs.Standing.{whole_member, version_at, IsVersionFor, standing, version_same}
+use Rattle.program_link.proofs.VersionFacts.{VersionFacts}
+use Rattle.lowering_laws.proofs.Standing.{whole_member, version_at, standing, version_same}
 use Rattle.lowering_laws.proofs.Named.{same_number, function_there, begins_at, main_same}
 use Rattle.lowering_laws.proofs.Bodies.{calls_before, step_at, pairs_same}
-use Rattle.lowering_laws.proofs.Uses.{Known, known, passed_at}
+use Rattle.lowering_laws.proofs.Uses.{Known, known}
 use Rattle.lowering_laws.proofs.Acting.{types_same}
 use Rattle.lowering_laws.proofs.Labelled.{labels_once}
 use Rattle.lowering_laws.proofs.Typing.{component_type, alike_is, operands_alike, operand_type, copies_typed}
@@ -91,7 +92,7 @@ record Found (p : Program) (merged : Merged) (plan : Plan) (g : ℕ) (w : Versio
   version : Version
   at : slice_get plan.versions g ≡ Some version
   function : Function
-  stands : IsVersionFor p merged plan version function
+  stands : VersionFacts p merged plan version function
   same : version_at p merged plan version function ≡ w
 
 version_here : (p : Program) (merged : Merged) (plan : Plan) → IsSummarised p merged → IsPlanned merged plan → (g : ℕ) (w : VersionedFunction) → slice_get (functions_of p merged plan) g ≡ Some w
@@ -138,7 +139,7 @@ record Stands (p : Program) (merged : Merged) (plan : Plan) (g : ℕ) (v : Versi
   summarised : IsSummarised p merged
   planned : IsPlanned merged plan
   own : slice_get plan.versions g ≡ Some v
-  version : IsVersionFor p merged plan v f
+  version : VersionFacts p merged plan v f
   here : slice_get f.body i ≡ Some s
   values : HasValues s
   names : knows (scope_of p f) s ≡ true
@@ -192,7 +193,7 @@ step_typed p merged plan g v f i (Putchar a) k = k.values
 step_typed p merged plan g v f i (Getchar to) k = target_typed p merged plan v f to (Some Int) Int k.types (λ ty e. same_Some Int ty e)
 step_typed p merged plan g v f i (Exit a) k = k.values
 
-steps_typed : (p : Program) (merged : Merged) (plan : Plan) → IsSummarised p merged → IsPlanned merged plan → (g : ℕ) (v : Version) (f : Function) → slice_get plan.versions g ≡ Some v → IsVersionFor p merged plan v f
+steps_typed : (p : Program) (merged : Merged) (plan : Plan) → IsSummarised p merged → IsPlanned merged plan → (g : ℕ) (v : Version) (f : Function) → slice_get plan.versions g ≡ Some v → VersionFacts p merged plan v f
     → (at : ℕ) (step : Step) → slice_get (version_at p merged plan v f).body at ≡ Some step → StepTyped (linked p merged plan) g (version_at p merged plan v f) step
 steps_typed p merged plan summarised planned g v f own k at step stands =
     by (slice_get f.body at) refl (sym (step_at (whole_member p merged plan v f) 0 f.body at) ∙ stands)
@@ -201,7 +202,7 @@ steps_typed p merged plan summarised planned g v f own k at step stands =
         → StepTyped (linked p merged plan) g (version_at p merged plan v f) step
     by None e is = absurd (none-some step is)
     by (Some s) e is =
-        let passed = passed_at p merged plan v f k at s e in
+        let passed = k.facts.passes at s e in
         subst (λ (t : Step). StepTyped (linked p merged plan) g (version_at p merged plan v f) t) (same_Some _ step is)
         (step_typed p merged plan g v f at s (record {
           summarised = summarised;
@@ -209,7 +210,7 @@ steps_typed p merged plan summarised planned g v f own k at step stands =
           own = own;
           version = k;
           here = e;
-          values = all_at HasValues f.body k.stated.values at s e;
+          values = all_at HasValues f.body k.facts.sound.values at s e;
           names = passed.0;
           counts = passed.1;
           types = passed.2;
@@ -233,14 +234,14 @@ no_constant count i x here =
     let inside : i < count = omega (arith, slice_get_within (bindings_of count) i (binding.Const x) here, length-map-range_with_len binding.Arg 0 count) in
     true≢false (ap is_argument (same_Some (binding.Arg (0 + i)) (binding.Const x) (sym (ranged binding.Arg 0 count i inside) ∙ here)))
 
-function_typed : (p : Program) (merged : Merged) (plan : Plan) → IsSummarised p merged → IsPlanned merged plan → (g : ℕ) (v : Version) (f : Function) → slice_get plan.versions g ≡ Some v → IsVersionFor p merged plan v f
+function_typed : (p : Program) (merged : Merged) (plan : Plan) → IsSummarised p merged → IsPlanned merged plan → (g : ℕ) (v : Version) (f : Function) → slice_get plan.versions g ≡ Some v → VersionFacts p merged plan v f
     → IsVersioned (version_at p merged plan v f) → FunctionTyped (linked p merged plan) g (version_at p merged plan v f)
 function_typed p merged plan summarised planned g v f own k fits =
     let all : length (version_at p merged plan v f).types ≡ components_in f.variables =
     ap (λ (ts : List ScalarType). length ts) (types_same f.variables) ∙ length-flat_map (λ (w : Variable). w.types) f.variables in
     record {
       versioned = fits;
-      labels = labels_once p merged plan v f k.stated.labels;
+      labels = labels_once p merged plan v f k.facts.sound.labels;
       parameters = omega (arith, length-map-range_with_len binding.Arg 0 (parameter_components f), front_few f.variables f.parameters, all);
       constants = λ i x at. absurd (no_constant (parameter_components f) i x at);
       steps = steps_typed p merged plan summarised planned g v f own k;

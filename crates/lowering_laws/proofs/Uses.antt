@@ -13,13 +13,13 @@ use Rattle.gimple_ir.specs.declared.plan.Plan.{Plan}
 use Rattle.gimple_ir.specs.declared.merged.Merged.{Merged}
 use Rattle.gimple_ir.specs.declared.unit.ArrayUse.{ArrayUse}
 use Rattle.gimple_ir.specs.declared.unit.CallUse.{CallUse}
-use Rattle.gimple_ir.specs.Statements.{knows, knows_component, knows_operand, knows_array, counts_arguments, types_fit, statement_kind}
+use Rattle.gimple_ir.specs.Statements.{knows, knows_component, knows_operand, knows_array}
 use Rattle.gimple_ir.specs.Programs.{scope_of}
 use Rattle.gimple_meaning.specs.Source as source
 use Rattle.gimple_meaning.specs.Steps.{Code}
 use Rattle.func_summary.specs.Summaries.{arrays_in, arrays_of}
 use Rattle.func_summary.specs.Summarised.{module_of, IsSummarised}
-use Rattle.func_summary.proofs.Checked.{below, all_at, statement-passes}
+use Rattle.func_summary.proofs.Checked.{below, all_at}
 use Rattle.ipa_plan.specs.Laws.{IsPlanned}
 use Rattle.ipa_transform.specs.Versioned.{operands_of, use_of, picked, kept_of}
 use Rattle.final_link.specs.Arrays.{array_symbol}
@@ -30,7 +30,8 @@ use Rattle.machine_laws.specs.Linked.{linked_code, array_number}
 use Rattle.lowering_laws.specs.States.{function_of_version}
 use Rattle.lowering_laws.specs.Linked.{linked}
 use Rattle.lowering_laws.proofs.Lists.{mapped_at}
-use Rattle.lowering_laws.proofs.Standing.{version_at, IsVersionFor}
+use Rattle.program_link.proofs.VersionFacts.{VersionFacts}
+use Rattle.lowering_laws.proofs.Standing.{version_at}
 use Rattle.lowering_laws.proofs.Named.{array_found, function_found}
 use Rattle.lowering_laws.proofs.Bodies.{calls_before, call_stands}
 
@@ -70,7 +71,7 @@ array_use_at p merged f i s array at is lt =
     let ks = arrays_of (module_of p) f in
     mapped_at (array_use merged) ks (use_of (map (array_use merged) ks) array) array (use_here merged ks array (use_found p merged f i s array at is lt))
 
-array_known : (p : Program) (merged : Merged) (plan : Plan) → IsSummarised p merged → IsPlanned merged plan → (v : Version) (f : Function) → IsVersionFor p merged plan v f
+array_known : (p : Program) (merged : Merged) (plan : Plan) → IsSummarised p merged → IsPlanned merged plan → (v : Version) (f : Function) → VersionFacts p merged plan v f
     → (i : ℕ) (s : Statement) (array : ℕ) → slice_get f.body i ≡ Some s → arrays_in s ≡ array ∷ [] → array < length p.arrays
     → array_number (linked p merged plan) (version_at p merged plan v f) (use_of (member_of p merged plan v f).arrays array) ≡ array
 array_known p merged plan summarised planned v f k i s array at is lt =
@@ -81,7 +82,7 @@ array_known p merged plan summarised planned v f k i s array at is lt =
     ap (λ o. option_map_or (λ (u : ArrayUse). (linked p merged plan).array_named u.symbol) o (length (linked p merged plan).arrays)) (array_use_at p merged f i s array at is lt)
     ∙ array_found p merged plan summarised planned array lt kept
 
-call_known : (p : Program) (merged : Merged) (plan : Plan) → IsSummarised p merged → IsPlanned merged plan → (v : Version) (f : Function) → IsVersionFor p merged plan v f
+call_known : (p : Program) (merged : Merged) (plan : Plan) → IsSummarised p merged → IsPlanned merged plan → (v : Version) (f : Function) → VersionFacts p merged plan v f
     → (i : ℕ) (to : Option ℕ) (g : ℕ) (args : List Arg) → slice_get f.body i ≡ Some (Call to g args) → Known p merged plan v f (calls_before 0 f.body i) (Call to g args)
 call_known p merged plan summarised planned v f k i to g args at =
     let stands = call_stands p merged plan v f k i to g args at in
@@ -93,12 +94,7 @@ call_known p merged plan summarised planned v f k i to g args at =
       stands.passed,
     )
 
--- what the checks of a statement have found
-pub passed_at : (p : Program) (merged : Merged) (plan : Plan) (v : Version) (f : Function) → IsVersionFor p merged plan v f → (i : ℕ) (s : Statement) → slice_get f.body i ≡ Some s
-    → (knows (scope_of p f) s ≡ true) × (counts_arguments (scope_of p f) s ≡ true) × (types_fit (scope_of p f) s ≡ true)
-passed_at p merged plan v f k i s at = statement-passes (scope_of p f) s (all_at (λ (t : Statement). statement_kind (scope_of p f) t ≡ None) f.body k.stated.statements i s at)
-
-known_in : (p : Program) (merged : Merged) (plan : Plan) → IsSummarised p merged → IsPlanned merged plan → (v : Version) (f : Function) → IsVersionFor p merged plan v f
+known_in : (p : Program) (merged : Merged) (plan : Plan) → IsSummarised p merged → IsPlanned merged plan → (v : Version) (f : Function) → VersionFacts p merged plan v f
     → (i : ℕ) (s : Statement) → slice_get f.body i ≡ Some s → knows (scope_of p f) s ≡ true → Known p merged plan v f (calls_before 0 f.body i) s
 known_in p merged plan summarised planned v f k i (Load to array a) at names =
     let scope = scope_of p f in
@@ -111,6 +107,6 @@ known_in p merged plan summarised planned v f k i (Store array a b) at names =
 known_in p merged plan summarised planned v f k i (Call to g args) at names = call_known p merged plan summarised planned v f k i to g args at
 known_in p merged plan summarised planned v f k i _ at names = tt
 
-pub known : (p : Program) (merged : Merged) (plan : Plan) → IsSummarised p merged → IsPlanned merged plan → (v : Version) (f : Function) → IsVersionFor p merged plan v f
+pub known : (p : Program) (merged : Merged) (plan : Plan) → IsSummarised p merged → IsPlanned merged plan → (v : Version) (f : Function) → VersionFacts p merged plan v f
     → (i : ℕ) (s : Statement) → slice_get f.body i ≡ Some s → Known p merged plan v f (calls_before 0 f.body i) s
-known p merged plan summarised planned v f k i s at = known_in p merged plan summarised planned v f k i s at (passed_at p merged plan v f k i s at).0
+known p merged plan summarised planned v f k i s at = known_in p merged plan summarised planned v f k i s at (k.facts.passes i s at).0

@@ -34,7 +34,6 @@ use Rattle.gimple_meaning.specs.Steps.{act, act_in, bound_by, opened_by}
 use Rattle.ipa_transform.specs.Versioned.{step_of, steps_of, picked, kept_of, operands_of}
 use Rattle.program_link.specs.Versions.{member_of}
 use Rattle.machine_laws.specs.Linked.{linked_step}
-use Rattle.lowering_laws.specs.States.{function_of_version}
 use Rattle.lowering_laws.specs.Linked.{linked}
 use Rattle.lowering_laws.proofs.Together.{SameAct}
 use Rattle.lowering_laws.proofs.Standing.{whole_member, version_at}

@@ -1,6 +1,6 @@
 -- The symbols that versions name stand for versions of the functions, and for the arrays, that statements name.
-use Rattle.std.proofs.Common.{◌≡◌, ◌^◌, ◌<◌, ℕ, List, [], ◌∷◌, length, map, Bool, true, false, true≢false, cond, eqb, eqb-true, eq-eqb, Some, None, refl, sym, ap, ◌∙◌, ◌||◌, arith}
-use Rattle.std.specs.Prelude.{All, ◌&&◌, not, slice_get, filter, unwrap_or, nat_eq, codes}
+use Rattle.std.proofs.Common.{◌≡◌, ◌^◌, ◌<◌, ℕ, List, [], ◌∷◌, length, map, Bool, true, false, true≢false, cond, eqb, eqb-true, eq-eqb, Some, refl, sym, ap, ◌∙◌, ◌||◌, arith}
+use Rattle.std.specs.Prelude.{All, ◌&&◌, not, slice_get, filter, unwrap_or, nat_eq}
 use Rattle.std.specs.List.{list_any, position_or_len}
 use Rattle.std.specs.Option.{option_map_or}
 use Rattle.std.specs.Str.{bytes_eq}
@@ -10,7 +10,6 @@ use Rattle.std.proofs.lemmas.List.Elements.{All-append, All-filter, All-head, Al
 use Rattle.std.proofs.lemmas.List.Folds.{list_any-append}
 use Rattle.std.proofs.lemmas.Slice.Eq.{bytes_eq-Decides}
 use Rattle.gimple_ir.specs.declared.types.Array.{Array}
-use Rattle.gimple_ir.specs.declared.types.Function.{Function}
 use Rattle.gimple_ir.specs.declared.types.Program.{Program}
 use Rattle.gimple_ir.specs.declared.plan.Version.{Version}
 use Rattle.gimple_ir.specs.declared.plan.Plan.{Plan}

@@ -1,11 +1,11 @@
 -- What follows a run of versions follows the run for which it stands while this is defined.
-use Rattle.std.proofs.Common.{◌≡◌, ℕ, sym, ap, ◌∙◌, subst}
+use Rattle.std.proofs.Common.{ℕ, sym, ap, ◌∙◌, subst}
 use Rattle.gimple_ir.specs.declared.types.Program.{Program}
 use Rattle.gimple_ir.specs.declared.plan.Plan.{Plan}
 use Rattle.rv64_meaning.specs.Machine.{Outcome}
 use Rattle.rv64_meaning.specs.Machine as hart
 use Rattle.gimple_meaning.specs.Systems.{Machine, State, Running, Ended, Undefined}
-use Rattle.follow_laws.specs.Follows.{Covers, RunFollows}
+use Rattle.follow_laws.specs.Follows.{Covers}
 use Rattle.lowering_laws.specs.States.{source_machine, SameState}
 use Rattle.lowering_laws.specs.Laws.{PassesOn}
 

@@ -1,16 +1,15 @@
 -- The versions of a plan are a well formed program of versions.
-use Rattle.std.proofs.Common.{◌≡◌, ◌≢◌, ◌+◌, ◌<◌, ◌≤◌, ℕ, zero, suc, List, [], ◌∷◌, length, map, take, Bool, true, false, true≢false, Some, None, refl, sym, ap, ◌∙◌, subst, arith}
+use Rattle.std.proofs.Common.{◌≡◌, ◌≢◌, ◌+◌, ◌<◌, ◌≤◌, ℕ, zero, suc, List, [], ◌∷◌, length, take, Bool, true, false, true≢false, Some, None, refl, sym, ap, ◌∙◌, subst, arith}
 use Rattle.std.specs.Prelude.{All, Option, IsSomeAnd, slice_get, option_map, nat_eq}
 use Rattle.std.specs.List.{flat_map, list_all, zip}
 use Rattle.std.specs.Option.{option_map_or, option_and_then}
 use Rattle.std.proofs.lemmas.Option.{none-some, same_Some, slice_get-map, slice_get_within}
 use Rattle.std.proofs.lemmas.List.Concat.{length-flat_map}
-use Rattle.std.proofs.lemmas.List.Elements.{All-nil, All-cons}
+use Rattle.std.proofs.lemmas.List.Elements.{All-nil, All-cons, All-from_recursion}
 use Rattle.std.proofs.lemmas.List.FromFn.{length-map-range_with_len}
 use Rattle.std.proofs.lemmas.List.Sums.{sum_by-cons}
 use Rattle.gimple_ir.specs.declared.types.ScalarType.{ScalarType}
 use Rattle.gimple_ir.specs.declared.types.ScalarType.TheVariants.{Int}
-use Rattle.gimple_ir.specs.declared.types.ResultType.{ResultType}
 use Rattle.gimple_ir.specs.declared.types.ResultType.TheVariants as returned
 use Rattle.gimple_ir.specs.declared.types.Operand.{Operand}
 use Rattle.gimple_ir.specs.declared.types.Operand.TheVariants.{Component}
@@ -48,10 +47,11 @@ use Rattle.machine_laws.specs.Linked.{callee_number}
 use Rattle.machine_laws.specs.Typed.{TargetTyped, ArgumentsTyped, StepTyped, FunctionTyped, ProgramTyped}
 use Rattle.lowering_laws.specs.States.{function_of_version}
 use Rattle.lowering_laws.specs.Linked.{result_type_of, linked}
-use Rattle.lowering_laws.proofs.Lists.{there, from_mapped, mapped_at, ranged}
-use Rattle.program_link.proofs.VersionFacts.{VersionFacts}
+use Rattle.lowering_laws.proofs.Lists.{there, from_mapped, ranged}
+use Rattle.program_link.proofs.VersionFacts.{VersionFacts, versions_have}
+use Rattle.program_link.proofs.Fitting.{version_fits}
 use Rattle.lowering_laws.proofs.Standing.{whole_member, version_at, standing, version_same}
-use Rattle.lowering_laws.proofs.Named.{same_number, function_there, begins_at, main_same}
+use Rattle.lowering_laws.proofs.Named.{same_number, function_there, main_same}
 use Rattle.lowering_laws.proofs.Bodies.{calls_before, step_at, pairs_same}
 use Rattle.lowering_laws.proofs.Uses.{Known, known}
 use Rattle.lowering_laws.proofs.Acting.{types_same}
@@ -257,7 +257,7 @@ no_parameters vs zero none = empty vs
     empty (w ∷ ws) = refl
 no_parameters vs (suc n) none = absurd (omega (arith, none))
 
-pub versions_typed : (p : Program) (merged : Merged) (plan : Plan) → IsSummarised p merged → IsPlanned merged plan → All IsVersioned (functions_of p merged plan) → ProgramTyped (linked p merged plan)
+versions_typed : (p : Program) (merged : Merged) (plan : Plan) → IsSummarised p merged → IsPlanned merged plan → All IsVersioned (functions_of p merged plan) → ProgramTyped (linked p merged plan)
 versions_typed p merged plan summarised planned fits = record { functions = functions; main = begins }
   where
     functions : (g : ℕ) (w : VersionedFunction) → slice_get (functions_of p merged plan) g ≡ Some w → FunctionTyped (linked p merged plan) g w
@@ -274,3 +274,8 @@ versions_typed p merged plan summarised planned fits = record { functions = func
         let none = (main_is p merged r.function summarised (ap (slice_get p.functions) (sym number) ∙ r.stands.here)).0 in
         let bound = bound_here (parameter_components r.function) i k (ap (λ (u : VersionedFunction). slice_get u.bindings i) r.same ∙ here) in
         omega (arith, bound.0, no_parameters r.function.variables r.function.parameters none)
+
+pub program_typed : (p : Program) (merged : Merged) (plan : Plan) → IsSummarised p merged → IsPlanned merged plan → ProgramTyped (linked p merged plan)
+program_typed p merged plan summarised planned =
+    let fits = versions_have p merged plan IsVersioned summarised planned (λ v f k. version_fits p merged plan v f summarised k) in
+    versions_typed p merged plan summarised planned (All-from_recursion IsVersioned (functions_of p merged plan) fits)

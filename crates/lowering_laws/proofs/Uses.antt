@@ -1,7 +1,7 @@
 -- The arrays and functions that the statements of a version name, by the numbers that their symbols have.
-use Rattle.std.proofs.Common.{◌≡◌, ◌<◌, ℕ, suc, List, [], ◌∷◌, length, map, Bool, true, false, cond, eqb, eqb-true, Some, None, refl, ap, ◌∙◌, arith}
+use Rattle.std.proofs.Common.{◌≡◌, ◌<◌, ℕ, suc, List, [], ◌∷◌, length, map, Bool, true, false, cond, eqb, eqb-true, Some, refl, ap, ◌∙◌, arith}
 use Rattle.std.specs.Prelude.{Option, slice_get, nat_eq}
-use Rattle.std.specs.List.{flat_map, list_all, list_any}
+use Rattle.std.specs.List.{flat_map, list_any}
 use Rattle.std.specs.Option.{option_map_or}
 use Rattle.gimple_ir.specs.declared.types.Arg.{Arg}
 use Rattle.gimple_ir.specs.declared.types.Function.{Function}
@@ -22,7 +22,6 @@ use Rattle.func_summary.specs.Summarised.{module_of, IsSummarised}
 use Rattle.func_summary.proofs.Checked.{below, all_at}
 use Rattle.ipa_plan.specs.Laws.{IsPlanned}
 use Rattle.ipa_transform.specs.Versioned.{operands_of, use_of, picked, kept_of}
-use Rattle.final_link.specs.Arrays.{array_symbol}
 use Rattle.program_link.specs.Versions.{array_use, call_use, member_of}
 use Rattle.program_link.proofs.Facts.{three_true}
 use Rattle.program_link.proofs.Uses.{use_found}

@@ -18,9 +18,9 @@ use Rattle.gimple_ir.specs.Checks.{label_of, counts_up, labels_in_order, goals_s
 use Rattle.gimple_meaning.specs.Steps.{place_of, is_label}
 use Rattle.func_summary.proofs.Checked.{both-true}
 use Rattle.ipa_transform.specs.Versioned.{step_of, calls_in, steps_of}
+use Rattle.program_link.proofs.Facts.{same_number}
 use Rattle.machine_laws.specs.Typed.{StandsOnce}
 use Rattle.lowering_laws.proofs.Standing.{whole_member, version_at}
-use Rattle.lowering_laws.proofs.Named.{same_number}
 
 -- the label of a step
 abbrev step_label : Step → Option ℕ

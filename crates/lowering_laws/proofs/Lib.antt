@@ -1,7 +1,6 @@
 pub mod Together
 pub mod Passing
 pub mod Lists
-pub mod Symbols
 pub mod Standing
 pub mod Named
 pub mod Bodies

@@ -1,10 +1,9 @@
 -- The symbols that versions name stand for versions of the functions, and for the arrays, that statements name.
-use Rattle.std.proofs.Common.{◌≡◌, ◌^◌, ◌<◌, ℕ, List, [], ◌∷◌, length, map, Bool, true, false, true≢false, cond, eqb, eqb-true, eq-eqb, Some, refl, sym, ap, ◌∙◌, ◌||◌, arith}
+use Rattle.std.proofs.Common.{◌≡◌, ◌^◌, ◌<◌, ℕ, List, [], ◌∷◌, length, map, Bool, true, false, true≢false, cond, eqb, eqb-true, eq-eqb, Some, refl, sym, ap, ◌∙◌, subst, ◌||◌, drop, arith}
 use Rattle.std.specs.Prelude.{All, ◌&&◌, not, slice_get, filter, unwrap_or, nat_eq}
 use Rattle.std.specs.List.{list_any, position_or_len}
 use Rattle.std.specs.Option.{option_map_or}
 use Rattle.std.specs.Str.{bytes_eq}
-use Rattle.std.proofs.lemmas.Bool.Decides.{nat_tests}
 use Rattle.std.proofs.lemmas.List.{length-map}
 use Rattle.std.proofs.lemmas.List.Elements.{All-append, All-filter, All-head, All-tail, All-weaker}
 use Rattle.std.proofs.lemmas.List.Folds.{list_any-append}
@@ -16,7 +15,8 @@ use Rattle.gimple_ir.specs.declared.plan.Plan.{Plan}
 use Rattle.gimple_ir.specs.declared.merged.Merged.{Merged}
 use Rattle.gimple_ir.specs.declared.merged.MergedArray.{MergedArray}
 use Rattle.gimple_ir.specs.declared.versioned.VersionedFunction.{VersionedFunction}
-use Rattle.func_summary.specs.Summarised.{IsSummarised}
+use Rattle.gimple_ir.specs.Programs.{IsIdentifier}
+use Rattle.func_summary.specs.Summarised.{IsSmallArray, IsSummarised}
 use Rattle.func_summary.proofs.Checked.{both-true, all_at}
 use Rattle.ipa_plan.specs.Laws.{IsVersionIn, IsPlanned}
 use Rattle.final_link.specs.Arrays.{array_symbol, is_zeroed, stored_arrays, zeroed_arrays}
@@ -24,14 +24,13 @@ use Rattle.final_link.specs.Symbols.{arrays_in_order}
 use Rattle.final_link.specs.Names.{value_of}
 use Rattle.final_link.specs.Placing.{is_first_of}
 use Rattle.program_link.specs.Versions.{version_in, functions_of}
+use Rattle.program_link.proofs.Facts.{same_number}
+use Rattle.program_link.proofs.SymbolLaws.{behind, behind_function, behind_array}
+use Rattle.program_link.proofs.SymbolLaws.{same_number as same_decimal}
 use Rattle.lowering_laws.specs.States.{function_of_version}
 use Rattle.lowering_laws.specs.Linked.{linked}
-use Rattle.lowering_laws.proofs.Lists.{mapped_at, from_mapped, first_passing}
-use Rattle.lowering_laws.proofs.Symbols.{functions_apart, arrays_apart}
+use Rattle.lowering_laws.proofs.Lists.{there, mapped_at, from_mapped, first_passing}
 use Rattle.lowering_laws.proofs.Standing.{standing}
-
-pub same_number : (a b : ℕ) → nat_eq a b ≡ true → a ≡ b
-same_number a b h = grind (arith, nat_tests)
 
 -- ---- functions
 
@@ -45,7 +44,8 @@ same_function : (p : Program) (merged : Merged) (plan : Plan) → IsSummarised p
 same_function p merged plan summarised planned place other v w at also same =
     let k = standing p merged plan summarised planned place v at in
     let l = standing p merged plan summarised planned other w also in
-    functions_apart k.0.name l.0.name v.function w.function (omega (arith, k.1.inside, summarised.few_functions)) (omega (arith, l.1.inside, summarised.few_functions)) (sym k.1.symbol ∙ same ∙ l.1.symbol)
+    same_decimal v.function w.function (omega (arith, k.1.inside, summarised.few_functions)) (omega (arith, l.1.inside, summarised.few_functions))
+    (sym (behind_function k.0.name v.function k.1.facts.name) ∙ ap behind (sym k.1.symbol ∙ same ∙ l.1.symbol) ∙ behind_function l.0.name w.function l.1.facts.name)
 
 -- a version's symbol names one of the same function
 pub function_found : (p : Program) (merged : Merged) (plan : Plan) → IsSummarised p merged → IsPlanned merged plan → (place : ℕ) (v : Version) → slice_get plan.versions place ≡ Some v
@@ -124,12 +124,22 @@ in_order merged k ks h = list_any-append (nat_eq k) (stored_arrays merged ks) (z
 abbrev name_of : Merged → ℕ → List ℕ
 name_of merged number = option_map_or (λ (a : MergedArray). a.name) (slice_get merged.arrays number) []
 
+-- a number of an array, by whose symbol it is known
+record IsNumber (merged : Merged) (number : ℕ) : Type 0 where
+  few : number < 2 ^ 64
+  name : IsIdentifier (name_of merged number)
+
+same_array : (merged : Merged) (k j : ℕ) → IsNumber merged k → IsNumber merged j → array_symbol merged k ≡ array_symbol merged j → k ≡ j
+same_array merged k j own other same =
+    same_decimal k j own.few other.few
+    (ap (λ (bytes : List ℕ). drop 1 bytes) (sym (behind_array (name_of merged k) k own.name) ∙ ap behind same ∙ behind_array (name_of merged j) j other.name))
+
 -- of some arrays, each of which has its number under its symbol, one is found by its own
-value_found : (merged : Merged) (k other : ℕ) → k < 2 ^ 64 → (ks : List ℕ) → All (λ j. j < 2 ^ 64) ks → list_any (nat_eq k) ks ≡ true
+value_found : (merged : Merged) (k other : ℕ) → IsNumber merged k → (ks : List ℕ) → All (IsNumber merged) ks → list_any (nat_eq k) ks ≡ true
     → value_of other (array_symbol merged k) (map (λ j. (array_symbol merged j, j)) ks) ≡ k
-value_found merged k other few [] all h = absurd (true≢false (sym h))
-value_found merged k other few (j ∷ ks) all h =
-    by (bytes_eq (array_symbol merged k) (array_symbol merged j)) refl (value_found merged k other few ks (All-tail (λ n. n < 2 ^ 64) j ks all))
+value_found merged k other own [] all h = absurd (true≢false (sym h))
+value_found merged k other own (j ∷ ks) all h =
+    by (bytes_eq (array_symbol merged k) (array_symbol merged j)) refl (value_found merged k other own ks (All-tail (IsNumber merged) j ks all))
   where
     later : (c : Bool) → nat_eq k j ≡ c → bytes_eq (array_symbol merged k) (array_symbol merged j) ≡ false → (c || list_any (nat_eq k) ks) ≡ true → list_any (nat_eq k) ks ≡ true
     later true same differ more =
@@ -143,8 +153,20 @@ value_found merged k other few (j ∷ ks) all h =
         → (list_any (nat_eq k) ks ≡ true → unwrap_or (slice_get (map (λ e. e.1) rest) 0) other ≡ k)
         → unwrap_or (slice_get (map (λ e. e.1) (cond b ((array_symbol merged j, j) ∷ rest) rest)) 0) other ≡ k
     by true test found =
-        sym (arrays_apart (name_of merged k) (name_of merged j) k j few (All-head (λ n. n < 2 ^ 64) j ks all) ((bytes_eq-Decides (array_symbol merged k) (array_symbol merged j)).0 test))
+        sym (same_array merged k j own (All-head (IsNumber merged) j ks all) ((bytes_eq-Decides (array_symbol merged k) (array_symbol merged j)).0 test))
     by false test found = found (later (nat_eq k j) refl test h)
+
+-- each array of the link has a name
+is_number : (p : Program) (merged : Merged) → IsSummarised p merged → (array : ℕ) → array < length merged.arrays → IsNumber merged array
+is_number p merged summarised array lt =
+    let count : length merged.arrays ≡ length p.arrays =
+    sym (length-map merged.arrays (λ (a : MergedArray). a.item)) ∙ ap (λ (xs : List Array). length xs) summarised.items in
+    let r = there merged.arrays array lt in
+    let item = mapped_at (λ (a : MergedArray). a.item) merged.arrays array r.0 r.1 in
+    let small = all_at IsSmallArray p.arrays summarised.arrays array r.0.item (ap (λ (xs : List Array). slice_get xs array) (sym summarised.items) ∙ item) in
+    let named : name_of merged array ≡ r.0.item.name =
+    ap (λ o. option_map_or (λ (a : MergedArray). a.name) o []) r.1 ∙ all_at (λ (a : MergedArray). a.name ≡ a.item.name) merged.arrays summarised.names array r.0 r.1 in
+    record { few = omega (arith, lt, count, summarised.few_arrays); name = subst IsIdentifier (sym named) small.name }
 
 -- a kept array's symbol names it
 pub array_found : (p : Program) (merged : Merged) (plan : Plan) → IsSummarised p merged → IsPlanned merged plan → (array : ℕ) → array < length p.arrays → list_any (nat_eq array) plan.arrays ≡ true
@@ -152,7 +174,8 @@ pub array_found : (p : Program) (merged : Merged) (plan : Plan) → IsSummarised
 array_found p merged plan summarised planned array lt kept =
     let count : length merged.arrays ≡ length p.arrays =
     sym (length-map merged.arrays (λ (a : MergedArray). a.item)) ∙ ap (λ (xs : List Array). length xs) summarised.items in
-    let bounded = All-weaker (λ (a : ℕ). a < length merged.arrays) (λ (a : ℕ). a < 2 ^ 64) (λ a h. omega (arith, h, count, summarised.few_arrays)) plan.arrays planned.arrays in
-    let all = All-append (λ (a : ℕ). a < 2 ^ 64) (stored_arrays merged plan.arrays) (zeroed_arrays merged plan.arrays)
-    (All-filter (λ n. not (is_zeroed merged n)) (λ (a : ℕ). a < 2 ^ 64) plan.arrays bounded) (All-filter (is_zeroed merged) (λ (a : ℕ). a < 2 ^ 64) plan.arrays bounded) in
-    value_found merged array (length merged.arrays) (omega (arith, lt, summarised.few_arrays)) (arrays_in_order merged plan.arrays) all (in_order merged array plan.arrays kept)
+    let numbers = All-weaker (λ (a : ℕ). a < length merged.arrays) (IsNumber merged) (is_number p merged summarised) plan.arrays planned.arrays in
+    let all = All-append (IsNumber merged) (stored_arrays merged plan.arrays) (zeroed_arrays merged plan.arrays)
+    (All-filter (λ n. not (is_zeroed merged n)) (IsNumber merged) plan.arrays numbers) (All-filter (is_zeroed merged) (IsNumber merged) plan.arrays numbers) in
+    value_found merged array (length merged.arrays) (is_number p merged summarised array (omega (arith, lt, count))) (arrays_in_order merged plan.arrays) all
+    (in_order merged array plan.arrays kept)

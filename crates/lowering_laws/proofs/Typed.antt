@@ -42,7 +42,7 @@ use Rattle.ipa_transform.specs.Versioned as lowered
 use Rattle.rv64_select.specs.Assembly.{type_of, type_of_component}
 use Rattle.rv64_select.specs.Versioned.{IsVersioned}
 use Rattle.program_link.specs.Versions.{member_of, version_in, functions_of}
-use Rattle.program_link.proofs.Facts.{three_true}
+use Rattle.program_link.proofs.Facts.{three_true, same_number}
 use Rattle.machine_laws.specs.Linked.{callee_number}
 use Rattle.machine_laws.specs.Typed.{TargetTyped, ArgumentsTyped, StepTyped, FunctionTyped, ProgramTyped}
 use Rattle.lowering_laws.specs.States.{function_of_version}
@@ -51,7 +51,7 @@ use Rattle.lowering_laws.proofs.Lists.{there, from_mapped, ranged}
 use Rattle.program_link.proofs.VersionFacts.{VersionFacts, versions_have}
 use Rattle.program_link.proofs.Fitting.{version_fits}
 use Rattle.lowering_laws.proofs.Standing.{whole_member, version_at, standing, version_same}
-use Rattle.lowering_laws.proofs.Named.{same_number, function_there, main_same}
+use Rattle.lowering_laws.proofs.Named.{function_there, main_same}
 use Rattle.lowering_laws.proofs.Bodies.{calls_before, step_at, pairs_same}
 use Rattle.lowering_laws.proofs.Uses.{Known, known}
 use Rattle.lowering_laws.proofs.Acting.{types_same}

@@ -1,3 +1,3 @@
-pub mod Laws
-pub mod Linked
 pub mod States
+pub mod Linked
+pub mod Laws

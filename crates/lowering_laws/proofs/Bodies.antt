@@ -1,9 +1,9 @@
 -- A body and its steps: the step, the label and the call at each place.
-use Rattle.std.proofs.Common.{◌≡◌, ◌+◌, ℕ, zero, suc, List, [], ◌∷◌, ◌++◌, length, map, Bool, cond, Some, None, refl, sym, ap, ap₂, ◌∙◌, subst, arith, append_assoc, length-append}
+use Rattle.std.proofs.Common.{◌≡◌, ◌+◌, ◌<◌, ℕ, zero, suc, List, [], ◌∷◌, ◌++◌, length, map, Bool, cond, Some, None, refl, sym, ap, ap₂, ◌∙◌, subst, arith, append_assoc, length-append}
 use Rattle.std.specs.Prelude.{Option, slice_get, option_map, is_some, take}
 use Rattle.std.specs.List.{flat_map, filter_map, enumerate_from, cons_option, range_with_len}
 use Rattle.std.specs.Option.{option_map_or}
-use Rattle.std.proofs.lemmas.Option.{none-some, same_Some, slice_get-map}
+use Rattle.std.proofs.lemmas.Option.{none-some, same_Some}
 use Rattle.std.proofs.lemmas.List.FromFn.{length-map-range_with_len}
 use Rattle.std.proofs.lemmas.List.Sums.{sum_by-cons}
 use Rattle.gimple_ir.specs.declared.types.ScalarType.{ScalarType}
@@ -13,10 +13,13 @@ use Rattle.gimple_ir.specs.declared.types.Arg.{Arg}
 use Rattle.gimple_ir.specs.declared.types.Arg.TheVariants.{One, Whole}
 use Rattle.gimple_ir.specs.declared.types.Variable.{Variable}
 use Rattle.gimple_ir.specs.declared.types.Function.{Function}
-use Rattle.gimple_ir.specs.declared.types.Module.{Module}
+use Rattle.gimple_ir.specs.declared.types.Program.{Program}
 use Rattle.gimple_ir.specs.declared.types.Statement.{Statement}
 use Rattle.gimple_ir.specs.declared.types.Statement.TheVariants.{Label, Call}
 use Rattle.gimple_ir.specs.declared.summary.Edge.{Edge}
+use Rattle.gimple_ir.specs.declared.plan.Version.{Version}
+use Rattle.gimple_ir.specs.declared.plan.Plan.{Plan}
+use Rattle.gimple_ir.specs.declared.merged.Merged.{Merged}
 use Rattle.gimple_ir.specs.declared.unit.CallUse.{CallUse}
 use Rattle.gimple_ir.specs.declared.unit.Member.{Member}
 use Rattle.gimple_ir.specs.declared.versioned.VersionedFunction.{VersionedFunction}
@@ -26,10 +29,12 @@ use Rattle.gimple_meaning.specs.Source as source
 use Rattle.gimple_meaning.specs.Steps as steps
 use Rattle.func_summary.specs.Summaries.{edge_arguments, edge_of, edges_of}
 use Rattle.ipa_transform.specs.Versioned.{first_component, field_count, operands_of, struct_pairs, picked, kept_of, step_of, calls_in, steps_of}
-use Rattle.program_link.specs.Numbers.{function_symbol}
-use Rattle.program_link.specs.Lowering.{all_of, call_use}
+use Rattle.func_summary.proofs.Checked.{place_inside}
+use Rattle.ipa_plan.specs.Plans.{all_of}
+use Rattle.program_link.specs.Versions.{call_use}
 use Rattle.machine_laws.specs.Linked.{LinkedProgram, linked_step}
-use Rattle.lowering_laws.specs.Programs.{renumbered}
+use Rattle.lowering_laws.proofs.Lists.{there, mapped_at}
+use Rattle.program_link.proofs.VersionFacts.{VersionFacts}
 
 -- ---- places
 
@@ -44,15 +49,15 @@ step_at m n [] place = refl
 step_at m n (s ∷ ss) zero = refl
 step_at m n (s ∷ ss) (suc place) = step_at m (n + calls_in s) ss place
 
-same_label : (m : Module) (w : Member) (p : LinkedProgram) (v : VersionedFunction) (n l : ℕ) (s : Statement) → steps.is_label l (linked_step p v (step_of w n s)) ≡ source.is_label l (renumbered m s)
-same_label m w p v n l (Label k) = refl
-same_label m w p v n l _ = refl
+same_label : (w : Member) (p : LinkedProgram) (v : VersionedFunction) (n l : ℕ) (s : Statement) → steps.is_label l (linked_step p v (step_of w n s)) ≡ source.is_label l s
+same_label w p v n l (Label k) = refl
+same_label w p v n l _ = refl
 
-pub same_place : (m : Module) (w : Member) (p : LinkedProgram) (v : VersionedFunction) (n l : ℕ) (ss : List Statement)
-    → steps.place_of (map (linked_step p v) (steps_of w n ss)) l ≡ source.place_of (map (renumbered m) ss) l
-same_place m w p v n l [] = refl
-same_place m w p v n l (s ∷ ss) =
-    ap₂ (λ (b : Bool) (k : ℕ). cond b 0 (suc k)) (same_label m w p v n l s) (same_place m w p v (n + calls_in s) l ss)
+pub same_place : (w : Member) (p : LinkedProgram) (v : VersionedFunction) (n l : ℕ) (ss : List Statement)
+    → steps.place_of (map (linked_step p v) (steps_of w n ss)) l ≡ source.place_of ss l
+same_place w p v n l [] = refl
+same_place w p v n l (s ∷ ss) =
+    ap₂ (λ (b : Bool) (k : ℕ). cond b 0 (suc k)) (same_label w p v n l s) (same_place w p v (n + calls_in s) l ss)
 
 -- ---- calls
 
@@ -150,21 +155,36 @@ all_picked {X} pre (x ∷ xs) =
     (subst (λ (k : ℕ). picked ((pre ++ (x ∷ [])) ++ xs) (range_with_len k (length xs)) ≡ xs) count later) in
     ap₂ (λ (front back : List X). front ++ back) (ap (λ o. option_map_or (λ y. y ∷ []) o []) (first_after pre x xs)) rest
 
--- the call at a place
-pub record CallStands (m : Module) (f : Function) (n g : ℕ) (args : List Arg) : Type 0 where
-  pub symbol : slice_get (map (λ (c : CallUse). c.symbol) (map (call_use m) (edges_of f))) n ≡ Some (function_symbol m g)
-  pub passed : picked (flat_map (operands_of (types_of f.variables)) args) (kept_of (map (call_use m) (edges_of f)) n) ≡ flat_map (source.operands_of f.variables) args
+-- the call at a place, which is before its place of n calls: a version of the function is called, with all arguments
+pub record CallStands (plan : Plan) (v : Version) (f : Function) (n g : ℕ) (args : List Arg) : Type 0 where
+  pub target : Version
+  pub place : ℕ
+  pub stands : slice_get plan.versions place ≡ Some target
+  pub callee : target.function ≡ g
+  pub symbol : slice_get (map (λ (c : CallUse). c.symbol) (map (call_use plan) v.calls)) n ≡ Some target.symbol
+  pub passed : picked (flat_map (operands_of (types_of f.variables)) args) (kept_of (map (call_use plan) v.calls) n) ≡ flat_map (source.operands_of f.variables) args
 
-pub call_stands : (m : Module) (f : Function) (i : ℕ) (to : Option ℕ) (g : ℕ) (args : List Arg) → slice_get f.body i ≡ Some (Call to g args) → CallStands m f (calls_before 0 f.body i) g args
-call_stands m f i to g args here =
+pub call_stands : (p : Program) (merged : Merged) (plan : Plan) (v : Version) (f : Function) → VersionFacts p merged plan v f → (i : ℕ) (to : Option ℕ) (g : ℕ) (args : List Arg)
+    → slice_get f.body i ≡ Some (Call to g args) → CallStands plan v f (calls_before 0 f.body i) g args
+call_stands p merged plan v f k i to g args here =
     let n = calls_before 0 f.body i in
     let e = edge_at f 0 [] f.body i to g args here in
-    let uses : slice_get (map (call_use m) (edges_of f)) n ≡ Some (call_use m (edge_with f e.0 to g args)) =
-    slice_get-map (call_use m) (edges_of f) n ∙ ap (option_map (call_use m)) e.1 in
+    let edge = edge_with f e.0 to g args in
+    let inside : n < length v.calls = omega (arith, place_inside (edges_of f) n edge e.1, k.count) in
+    let r = there v.calls n inside in
+    let c = r.0 in
+    let call = k.calls n edge c e.1 r.1 in
+    let uses : slice_get (map (call_use plan) v.calls) n ≡ Some (call_use plan c) = mapped_at (call_use plan) v.calls n c r.1 in
     let ops = flat_map (source.operands_of f.variables) args in
-    let kept : kept_of (map (call_use m) (edges_of f)) n ≡ all_of (length ops) =
-    ap (λ o. option_map_or (λ (c : CallUse). c.kept) o []) uses ∙ ap all_of (argument_count f args) in
+    let kept : kept_of (map (call_use plan) v.calls) n ≡ all_of (length ops) =
+    ap (λ o. option_map_or (λ (u : CallUse). u.kept) o []) uses ∙ call.kept ∙ ap all_of (argument_count f args) in
     record {
-      symbol = slice_get-map (λ (c : CallUse). c.symbol) (map (call_use m) (edges_of f)) n ∙ ap (option_map (λ (c : CallUse). c.symbol)) uses;
+      target = call.target;
+      place = c.target;
+      stands = call.there;
+      callee = call.callee;
+      symbol =
+          mapped_at (λ (u : CallUse). u.symbol) (map (call_use plan) v.calls) n (call_use plan c) uses
+          ∙ ap (λ (o : Option Version). Some (option_map_or (λ (w : Version). w.symbol) o [])) call.there;
       passed = ap₂ (λ (xs : List Operand) (ks : List ℕ). picked xs ks) (operands_same f.variables args) kept ∙ all_picked [] ops;
     }

@@ -2,12 +2,14 @@
 use Rattle.std.proofs.Common.{◌≡◌, ◌+◌, ◌<◌, ◌≤◌, ℕ, zero, suc, List, [], ◌∷◌, length, Bool, true, false, true≢false, ◌≢◌, cond, eqb, eq-eqb, ne_eqb, Some, None, refl, sym, ap, ◌∙◌, subst, arith}
 use Rattle.std.specs.Prelude.{Option, ◌&&◌, not, slice_get, nat_eq}
 use Rattle.std.specs.List.{filter_map, cons_option}
-use Rattle.std.proofs.lemmas.Bool.Decides.{nat_tests}
 use Rattle.std.proofs.lemmas.Option.{none-some, same_Some}
 use Rattle.gimple_ir.specs.declared.types.Function.{Function}
-use Rattle.gimple_ir.specs.declared.types.Module.{Module}
+use Rattle.gimple_ir.specs.declared.types.Program.{Program}
 use Rattle.gimple_ir.specs.declared.types.Statement.{Statement}
 use Rattle.gimple_ir.specs.declared.types.Statement.TheVariants.{Label}
+use Rattle.gimple_ir.specs.declared.plan.Version.{Version}
+use Rattle.gimple_ir.specs.declared.plan.Plan.{Plan}
+use Rattle.gimple_ir.specs.declared.merged.Merged.{Merged}
 use Rattle.gimple_ir.specs.declared.unit.Member.{Member}
 use Rattle.gimple_ir.specs.declared.versioned.Step.{Step}
 use Rattle.gimple_ir.specs.declared.versioned.Step.TheVariants as form
@@ -16,9 +18,9 @@ use Rattle.gimple_ir.specs.Checks.{label_of, counts_up, labels_in_order, goals_s
 use Rattle.gimple_meaning.specs.Steps.{place_of, is_label}
 use Rattle.func_summary.proofs.Checked.{both-true}
 use Rattle.ipa_transform.specs.Versioned.{step_of, calls_in, steps_of}
-use Rattle.program_link.specs.Lowering.{member_of}
+use Rattle.program_link.proofs.Facts.{same_number}
 use Rattle.machine_laws.specs.Typed.{StandsOnce}
-use Rattle.lowering_laws.proofs.Named.{version_at}
+use Rattle.lowering_laws.proofs.Standing.{whole_member, version_at}
 
 -- the label of a step
 abbrev step_label : Step → Option ℕ
@@ -36,9 +38,6 @@ has_label l (Some k) = eqb k l
 test_label : (l : ℕ) (s : Step) → is_label l s ≡ has_label l (step_label s)
 test_label l (form.Label k) = refl
 test_label l _ = refl
-
-same_number : (a b : ℕ) → nat_eq a b ≡ true → a ≡ b
-same_number a b h = grind (arith, nat_tests)
 
 -- labels from n on stand in order: each of them once, and none below n
 record InOrder (n : ℕ) (labels : List ℕ) (steps : List Step) : Type 0 where
@@ -94,12 +93,13 @@ ordered w calls n [] up = record { stands = λ l low high. absurd (omega (arith,
 ordered w calls n (s ∷ ss) up =
     next_order n (step_of w calls s) (label_of s) (filter_map label_of ss) (steps_of w (calls + calls_in s) ss) (same_step_label w calls s) up (λ k counted. ordered w (calls + calls_in s) k ss counted)
 
-pub labels_once : (m : Module) (number : ℕ) (f : Function) → labels_stand f ≡ true → (label : ℕ) → label < length f.labels → StandsOnce (version_at m number f).body label
-labels_once m number f h label lt =
+pub labels_once : (p : Program) (merged : Merged) (plan : Plan) (v : Version) (f : Function) → labels_stand f ≡ true → (label : ℕ) → label < length f.labels
+    → StandsOnce (version_at p merged plan v f).body label
+labels_once p merged plan v f h label lt =
     let all = both-true (labels_in_order (length f.labels) f.body && goals_stand (length f.labels) f.body) (not (repeats f.labels)) h in
     let two = both-true (labels_in_order (length f.labels) f.body) (goals_stand (length f.labels) f.body) all.0 in
     let order = both-true (counts_up 0 (filter_map label_of f.body)) (nat_eq (length (filter_map label_of f.body)) (length f.labels)) two.0 in
     let count = same_number (length (filter_map label_of f.body)) (length f.labels) order.1 in
-    let r = ordered (member_of m number f) 0 0 f.body order.0 in
+    let r = ordered (whole_member p merged plan v f) 0 0 f.body order.0 in
     let low : 0 ≤ label = omega arith in
     record { stands = r.stands label low (omega (arith, lt, count)); once = λ place here. (r.once label place here).0 }

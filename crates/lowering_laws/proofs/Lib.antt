@@ -1,7 +1,7 @@
 pub mod Together
 pub mod Passing
-pub mod Numbered
-pub mod Symbols
+pub mod Lists
+pub mod Standing
 pub mod Named
 pub mod Bodies
 pub mod Uses

@@ -1,180 +1,181 @@
--- In a module that is a whole program, the symbols that statements name stand for the definitions with these numbers.
-use Rattle.std.proofs.Common.{◌≡◌, ◌+◌, ◌<◌, ℕ, zero, suc, List, [], ◌∷◌, ◌++◌, length, map, map-id, Bool, true, false, cond, Some, None, refl, sym, ap, ◌∙◌, arith}
-use Rattle.std.specs.Prelude.{Option, ◌||◌, not, slice_get, filter, option_map, unwrap_or, codes, decimal}
-use Rattle.std.specs.List.{enumerate_from, list_any}
+-- The symbols that versions name stand for versions of the functions, and for the arrays, that statements name.
+use Rattle.std.proofs.Common.{◌≡◌, ◌^◌, ◌<◌, ℕ, List, [], ◌∷◌, length, map, Bool, true, false, true≢false, cond, eqb, eqb-true, eq-eqb, Some, refl, sym, ap, ◌∙◌, subst, ◌||◌, drop, arith}
+use Rattle.std.specs.Prelude.{All, ◌&&◌, not, slice_get, filter, unwrap_or, nat_eq}
+use Rattle.std.specs.List.{list_any, position_or_len}
 use Rattle.std.specs.Option.{option_map_or}
-use Rattle.std.proofs.lemmas.Option.{none-some, same_Some, slice_get-map, slice_get_within, get_or_from_slice_get}
+use Rattle.std.specs.Str.{bytes_eq}
 use Rattle.std.proofs.lemmas.List.{length-map}
-use Rattle.std.proofs.lemmas.List.FromFn.{length-range_with_len}
+use Rattle.std.proofs.lemmas.List.Elements.{All-append, All-filter, All-head, All-tail, All-weaker}
+use Rattle.std.proofs.lemmas.List.Folds.{list_any-append}
+use Rattle.std.proofs.lemmas.Slice.Eq.{bytes_eq-Decides}
 use Rattle.gimple_ir.specs.declared.types.Array.{Array}
-use Rattle.gimple_ir.specs.declared.types.Function.{Function}
-use Rattle.gimple_ir.specs.declared.types.Module.{Module}
-use Rattle.gimple_ir.specs.declared.types.Statement.{Statement}
+use Rattle.gimple_ir.specs.declared.types.Program.{Program}
+use Rattle.gimple_ir.specs.declared.plan.Version.{Version}
+use Rattle.gimple_ir.specs.declared.plan.Plan.{Plan}
+use Rattle.gimple_ir.specs.declared.merged.Merged.{Merged}
 use Rattle.gimple_ir.specs.declared.merged.MergedArray.{MergedArray}
 use Rattle.gimple_ir.specs.declared.versioned.VersionedFunction.{VersionedFunction}
-use Rattle.gimple_ir.specs.Checks.{is_extern}
-use Rattle.gimple_ir.specs.Programs.{IsChecked}
-use Rattle.ipa_transform.specs.Versioned.{versioned_of}
-use Rattle.final_link.specs.Arrays.{array_symbol}
-use Rattle.program_link.specs.Numbers.{is_body, is_storage, numbers_from, symbol_by, function_number, function_symbol, storage_of}
-use Rattle.program_link.specs.Numbers.{array_symbol as array_symbol_at}
-use Rattle.program_link.specs.Lowering.{all_of, merged_array, merged_of, member_of}
-use Rattle.program_link.specs.Linking.{is_declared_function, is_declared_array, names_declaration, is_open}
-use Rattle.lowering_laws.specs.Programs.{storage_number}
-use Rattle.lowering_laws.specs.Linked.{place_among, symbols_of_functions, symbols_of_arrays, linked_of}
-use Rattle.lowering_laws.proofs.Numbered.{numbered, enumerated, ranged}
-use Rattle.lowering_laws.proofs.Symbols.{functions_apart, arrays_apart, symbol_found}
-
-past : {X : Type 0} (xs : List X) (i : ℕ) → i < length xs → slice_get xs i ≡ None → ⊥
-past [] i lt h = omega (arith, lt)
-past (x ∷ xs) zero lt h = none-some x (sym h)
-past (x ∷ xs) (suc i) lt h = past xs i (omega (arith, lt)) h
-
--- ---- no declaration is named
-
-or_false : (a b : Bool) → (a || b) ≡ false → (a ≡ false) × (b ≡ false)
-or_false true b h = cc
-or_false false b h = (refl, h)
-
-none_passes : {X : Type 0} (p : X → Bool) (xs : List X) → list_any p xs ≡ false → (i : ℕ) (x : X) → slice_get xs i ≡ Some x → p x ≡ false
-none_passes p [] h i x here = absurd (none-some x here)
-none_passes p (y ∷ ys) h zero x here = ap p (sym (same_Some y x here)) ∙ (or_false (p y) (list_any p ys) h).0
-none_passes p (y ∷ ys) h (suc i) x here = none_passes p ys (or_false (p y) (list_any p ys) h).1 i x here
-
-pub names_none : (m : Module) → is_open m ≡ false → (place : ℕ) (f : Function) → slice_get m.functions place ≡ Some f → (i : ℕ) (s : Statement) → slice_get f.body i ≡ Some s
-    → names_declaration m s ≡ false
-names_none m closed place f here i s at =
-    none_passes (names_declaration m) f.body (none_passes (λ (g : Function). list_any (names_declaration m) g.body) m.functions closed place f here) i s at
-
--- ---- arrays
-
-of_storage : {Y : Type 0} (g : MergedArray → Y) (h : Array → Y) → ((k : ℕ) (a : Array) → g (merged_array k a) ≡ h a) → (k : ℕ) (xs : List Array)
-    → map g (map (λ e. merged_array e.0 e.1) (filter (λ e. is_storage e.1) (enumerate_from k xs))) ≡ map h (filter is_storage xs)
-of_storage g h same k [] = refl
-of_storage {Y} g h same k (a ∷ more) = by (is_storage a) (of_storage g h same (k + 1) more)
-  where
-    rest : List (ℕ × Array)
-    rest = filter (λ e. is_storage e.1) (enumerate_from (k + 1) more)
-
-    by : (b : Bool) → map g (map (λ e. merged_array e.0 e.1) rest) ≡ map h (filter is_storage more)
-        → map g (map (λ e. merged_array e.0 e.1) (cond b ((k, a) ∷ rest) rest)) ≡ map h (cond b (a ∷ filter is_storage more) (filter is_storage more))
-    by true later = ap (λ (ys : List Y). g (merged_array k a) ∷ ys) later ∙ ap (λ (y : Y). y ∷ map h (filter is_storage more)) (same k a)
-    by false later = later
-
--- the arrays of the image are those that are defined, in order
-pub same_arrays : (m : Module) (main : ℕ) → (linked_of m main).arrays ≡ filter is_storage m.arrays
-same_arrays m main = of_storage (λ (a : MergedArray). a.item) (λ (a : Array). a) (λ k a. refl) 0 m.arrays ∙ map-id (filter is_storage m.arrays)
-
-name_there : (o : Option MergedArray) (name : List ℕ) → option_map (λ (a : MergedArray). a.name) o ≡ Some name → option_map_or (λ (a : MergedArray). a.name) o [] ≡ name
-name_there None name is = absurd (none-some name is)
-name_there (Some a) name is = same_Some a.name name is
-
-symbol_there : (m : Module) (main n : ℕ) (a : Array) → slice_get (filter is_storage m.arrays) n ≡ Some a → array_symbol (merged_of m main) n ≡ symbol_by a.name (codes ".a") n
-symbol_there m main n a here =
-    let names = of_storage (λ (x : MergedArray). x.name) (λ (x : Array). x.name) (λ k x. refl) 0 m.arrays in
-    let arrays = (merged_of m main).arrays in
-    let named : option_map (λ (x : MergedArray). x.name) (slice_get arrays n) ≡ Some a.name =
-    sym (slice_get-map (λ (x : MergedArray). x.name) arrays n) ∙ ap (λ (xs : List (List ℕ)). slice_get xs n) names
-    ∙ slice_get-map (λ (x : Array). x.name) (filter is_storage m.arrays) n ∙ ap (option_map (λ (x : Array). x.name)) here in
-    ap (λ (name : List ℕ). name ++ (codes ".a" ++ decimal n)) (name_there (slice_get arrays n) a.name named)
-
-count_same : (m : Module) → length (storage_of m) ≡ length (filter is_storage m.arrays)
-count_same m =
-    let items = of_storage (λ (a : MergedArray). a.item) (λ (a : Array). a) (λ k a. refl) 0 m.arrays in
-    sym (length-map (storage_of m) (λ e. merged_array e.0 e.1)) ∙ sym (length-map (map (λ e. merged_array e.0 e.1) (storage_of m)) (λ (a : MergedArray). a.item))
-    ∙ ap (λ (xs : List Array). length xs) (items ∙ map-id (filter is_storage m.arrays))
-
-symbols_there : (m : Module) (main : ℕ) (count j : ℕ) (s : List ℕ) → slice_get (map (array_symbol (merged_of m main)) (all_of count)) j ≡ Some s
-    → (other : List ℕ) × (s ≡ symbol_by other (codes ".a") j)
-symbols_there m main count j s at = by (slice_get (all_of count) j) refl
-  where
-    by : (o : Option ℕ) → slice_get (all_of count) j ≡ o → (other : List ℕ) × (s ≡ symbol_by other (codes ".a") j)
-    by None e = absurd (none-some s (sym (ap (option_map (array_symbol (merged_of m main))) e) ∙ sym (slice_get-map (array_symbol (merged_of m main)) (all_of count) j) ∙ at))
-    by (Some k) e =
-        let few = slice_get_within (all_of count) j k e in
-        let inside : j < count = omega (arith, few, length-range_with_len 0 count) in
-        let first : 0 + j ≡ j = omega arith in (
-          option_map_or (λ (a : MergedArray). a.name) (slice_get (merged_of m main).arrays j) [],
-          sym (same_Some _ s (sym (ranged (array_symbol (merged_of m main)) 0 count j inside) ∙ at)) ∙ ap (array_symbol (merged_of m main)) first,
-        )
-
--- what an array's symbol names
-pub array_found : (m : Module) (main place : ℕ) → IsChecked m → place < length m.arrays → is_declared_array m place ≡ false
-    → (linked_of m main).array_named (array_symbol_at m place) ≡ storage_number m place
-array_found m main place checked lt defined = by (slice_get m.arrays place) refl
-  where
-    at : (a : Array) → slice_get m.arrays place ≡ Some a → (linked_of m main).array_named (array_symbol_at m place) ≡ storage_number m place
-    at a here =
-        let body : is_storage a ≡ true = ap not (sym (ap (λ o. option_map_or (λ (x : Array). is_extern x.linkage) o false) here) ∙ defined) in
-        let r = numbered (λ (x : Array). x.name) (codes ".a") is_storage 0 m.arrays place a here body in
-        let first : 0 + r.0 ≡ r.0 = omega arith in
-        let symbol : array_symbol_at m place ≡ symbol_by a.name (codes ".a") r.0 =
-        ap (λ o. unwrap_or o []) r.2 ∙ ap (λ (n : ℕ). symbol_by a.name (codes ".a") n) first in
-        let number : storage_number m place ≡ r.0 = get_or_from_slice_get (numbers_from is_storage 0 m.arrays) place (0 + r.0) 0 r.1 ∙ first in
-        let inside : r.0 < length (storage_of m) = omega (arith, slice_get_within (filter is_storage m.arrays) r.0 a r.3, count_same m) in
-        let there : slice_get (symbols_of_arrays m main) r.0 ≡ Some (symbol_by a.name (codes ".a") r.0) =
-        ranged (array_symbol (merged_of m main)) 0 (length (storage_of m)) r.0 inside
-        ∙ ap (λ (n : ℕ). Some (array_symbol (merged_of m main) n)) first ∙ ap Some (symbol_there m main r.0 a r.3) in
-        ap (place_among (symbols_of_arrays m main)) symbol
-        ∙ symbol_found (codes ".a") arrays_apart (symbols_of_arrays m main) a.name r.0 (omega (arith, r.4, lt, checked.stated.items)) there (symbols_there m main (length (storage_of m)))
-        ∙ sym number
-
-    by : (o : Option Array) → slice_get m.arrays place ≡ o → (linked_of m main).array_named (array_symbol_at m place) ≡ storage_number m place
-    by None e = absurd (past m.arrays place lt e)
-    by (Some a) e = at a e
+use Rattle.gimple_ir.specs.Programs.{IsIdentifier}
+use Rattle.func_summary.specs.Summarised.{IsSmallArray, IsSummarised}
+use Rattle.func_summary.proofs.Checked.{both-true, all_at}
+use Rattle.ipa_plan.specs.Laws.{IsVersionIn, IsPlanned}
+use Rattle.final_link.specs.Arrays.{array_symbol, is_zeroed, stored_arrays, zeroed_arrays}
+use Rattle.final_link.specs.Symbols.{arrays_in_order}
+use Rattle.final_link.specs.Names.{value_of}
+use Rattle.final_link.specs.Placing.{is_first_of}
+use Rattle.program_link.specs.Versions.{version_in, functions_of}
+use Rattle.program_link.proofs.Facts.{same_number}
+use Rattle.program_link.proofs.SymbolLaws.{behind, behind_function, behind_array}
+use Rattle.program_link.proofs.SymbolLaws.{same_number as same_decimal}
+use Rattle.lowering_laws.specs.States.{function_of_version}
+use Rattle.lowering_laws.specs.Linked.{linked}
+use Rattle.lowering_laws.proofs.Lists.{there, mapped_at, from_mapped, first_passing}
+use Rattle.lowering_laws.proofs.Standing.{standing}
 
 -- ---- functions
 
-abbrev pub version_at : Module → ℕ → Function → VersionedFunction
-version_at m number f = versioned_of (member_of m number f)
+-- where a version stands, its function is known
+pub function_there : (p : Program) (plan : Plan) (place : ℕ) (v : Version) → slice_get plan.versions place ≡ Some v → function_of_version p plan place ≡ v.function
+function_there p plan place v at = ap (λ o. option_map_or (λ (w : Version). w.function) o (length p.functions)) at
 
-symbol_at : (m : Module) (j : ℕ) → slice_get (symbols_of_functions m) j ≡ option_map (λ (f : Function). symbol_by f.name (codes ".") j) (slice_get (filter is_body m.functions) j)
-symbol_at m j =
-    slice_get-map (λ (v : VersionedFunction). v.symbol) (map (λ e. version_at m e.0 e.1) (enumerate_from 0 (filter is_body m.functions))) j
-    ∙ ap (option_map (λ (v : VersionedFunction). v.symbol)) (enumerated (λ e. version_at m e.0 e.1) 0 (filter is_body m.functions) j)
-    ∙ by (slice_get (filter is_body m.functions) j)
+-- two versions of one symbol are of one function
+same_function : (p : Program) (merged : Merged) (plan : Plan) → IsSummarised p merged → IsPlanned merged plan → (place other : ℕ) (v w : Version)
+    → slice_get plan.versions place ≡ Some v → slice_get plan.versions other ≡ Some w → v.symbol ≡ w.symbol → v.function ≡ w.function
+same_function p merged plan summarised planned place other v w at also same =
+    let k = standing p merged plan summarised planned place v at in
+    let l = standing p merged plan summarised planned other w also in
+    same_decimal v.function w.function (omega (arith, k.1.inside, summarised.few_functions)) (omega (arith, l.1.inside, summarised.few_functions))
+    (sym (behind_function k.0.name v.function k.1.facts.name) ∙ ap behind (sym k.1.symbol ∙ same ∙ l.1.symbol) ∙ behind_function l.0.name w.function l.1.facts.name)
+
+-- a version's symbol names one of the same function
+pub function_found : (p : Program) (merged : Merged) (plan : Plan) → IsSummarised p merged → IsPlanned merged plan → (place : ℕ) (v : Version) → slice_get plan.versions place ≡ Some v
+    → function_of_version p plan ((linked p merged plan).function_named v.symbol) ≡ v.function
+function_found p merged plan summarised planned place v at =
+    let test = λ (f : VersionedFunction). bytes_eq v.symbol f.symbol in
+    let fs = functions_of p merged plan in
+    let own = mapped_at (version_in p merged plan) plan.versions place v at in
+    let r = first_passing test fs place (version_in p merged plan v) own ((bytes_eq-Decides v.symbol v.symbol).1 refl) in
+    let from = from_mapped (version_in p merged plan) plan.versions (position_or_len test fs) r.0 r.1 in
+    let w = from.0 in
+    let same : v.symbol ≡ w.symbol =
+    (bytes_eq-Decides v.symbol r.0.symbol).0 r.2 ∙ ap (λ (f : VersionedFunction). f.symbol) (sym from.2) in
+    function_there p plan (position_or_len test fs) w from.1
+    ∙ sym (same_function p merged plan summarised planned place (position_or_len test fs) v w at from.1 same)
+
+-- a run begins with a version of `main`
+pub record Begins (p : Program) (merged : Merged) (plan : Plan) : Type 0 where
+  pub version : Version
+  pub at : slice_get plan.versions (linked p merged plan).main ≡ Some version
+  pub is : version.function ≡ p.main
+
+pub begins_at : (p : Program) (merged : Merged) (plan : Plan) → IsSummarised p merged → IsPlanned merged plan → Begins p merged plan
+begins_at p merged plan summarised planned =
+    let first = planned.main summarised.exported in
+    let v = first.1 in
+    let known = all_at (IsVersionIn merged plan) plan.versions planned.versions first.0 v first.2 in
+    let r = first_passing (is_first_of merged.main) plan.versions first.0 v first.2 (passes v first.3 known.number) in
+    let both = both-true (eqb r.0.function merged.main) (eqb r.0.number 0) r.2 in
+    record { version = r.0; at = r.1; is = eqb-true r.0.function merged.main both.0 ∙ summarised.main }
   where
-    by : (o : Option Function) → option_map (λ (v : VersionedFunction). v.symbol) (option_map (λ (f : Function). version_at m (0 + j) f) o) ≡ option_map (λ (f : Function). symbol_by f.name (codes ".") j) o
-    by None = refl
-    by (Some f) = let first : 0 + j ≡ j = omega arith in ap (λ (n : ℕ). Some (symbol_by f.name (codes ".") n)) first
+    and_true : (a b : Bool) → a ≡ true → b ≡ true → (a && b) ≡ true
+    and_true true b e h = h
+    and_true false b e h = absurd (true≢false (sym e))
 
-functions_there : (m : Module) (j : ℕ) (s : List ℕ) → slice_get (symbols_of_functions m) j ≡ Some s → (other : List ℕ) × (s ≡ symbol_by other (codes ".") j)
-functions_there m j s at = by (slice_get (filter is_body m.functions) j) (sym (symbol_at m j) ∙ at)
+    passes : (v : Version) → v.function ≡ merged.main → v.number ≡ 0 → is_first_of merged.main v ≡ true
+    passes v of number = and_true (eqb v.function merged.main) (eqb v.number 0) (eq-eqb v.function merged.main of) (eq-eqb v.number 0 number)
+
+pub main_same : (p : Program) (merged : Merged) (plan : Plan) → IsSummarised p merged → IsPlanned merged plan → function_of_version p plan (linked p merged plan).main ≡ p.main
+main_same p merged plan summarised planned =
+    let first = begins_at p merged plan summarised planned in
+    function_there p plan (linked p merged plan).main first.version first.at ∙ first.is
+
+-- ---- arrays
+
+-- the arrays of the link are the program's
+pub same_arrays : (p : Program) (merged : Merged) (plan : Plan) → IsSummarised p merged → (linked p merged plan).arrays ≡ p.arrays
+same_arrays p merged plan summarised = summarised.items
+
+-- one of those that pass a test, which passes it
+still_there : (z : ℕ → Bool) (k : ℕ) → z k ≡ true → (ks : List ℕ) → list_any (nat_eq k) ks ≡ true → list_any (nat_eq k) (filter z ks) ≡ true
+still_there z k passes [] h = h
+still_there z k passes (j ∷ ks) h = by (nat_eq k j) (z j) refl refl (still_there z k passes ks) h
   where
-    by : (o : Option Function) → option_map (λ (f : Function). symbol_by f.name (codes ".") j) o ≡ Some s → (other : List ℕ) × (s ≡ symbol_by other (codes ".") j)
-    by None e = absurd (none-some s e)
-    by (Some f) e = (f.name, sym (same_Some _ s e))
+    by : (c b : Bool) → nat_eq k j ≡ c → z j ≡ b → (list_any (nat_eq k) ks ≡ true → list_any (nat_eq k) (filter z ks) ≡ true) → (c || list_any (nat_eq k) ks) ≡ true
+        → list_any (nat_eq k) (cond b (j ∷ filter z ks) (filter z ks)) ≡ true
+    by true true same test later more = ap (λ (c : Bool). c || list_any (nat_eq k) (filter z ks)) same
+    by true false same test later more = absurd (true≢false (sym passes ∙ ap z (same_number k j same) ∙ test))
+    by false true same test later more = ap (λ (c : Bool). c || list_any (nat_eq k) (filter z ks)) same ∙ later more
+    by false false same test later more = later more
 
--- what a function's symbol names, and that the function is there
-pub record IsFound (m : Module) (main place : ℕ) : Type 0 where
-  pub function : Function
-  pub here : slice_get m.functions place ≡ Some function
-  pub there : slice_get (filter is_body m.functions) (function_number m place) ≡ Some function
-  pub named : (linked_of m main).function_named (function_symbol m place) ≡ function_number m place
+or_true : (a : Bool) → (a || true) ≡ true
+or_true true = refl
+or_true false = refl
 
-pub function_found : (m : Module) (main place : ℕ) → IsChecked m → place < length m.functions → is_declared_function m place ≡ false → IsFound m main place
-function_found m main place checked lt defined = by (slice_get m.functions place) refl
+in_order : (merged : Merged) (k : ℕ) (ks : List ℕ) → list_any (nat_eq k) ks ≡ true → list_any (nat_eq k) (arrays_in_order merged ks) ≡ true
+in_order merged k ks h = list_any-append (nat_eq k) (stored_arrays merged ks) (zeroed_arrays merged ks) ∙ by (is_zeroed merged k) refl
   where
-    at : (f : Function) → slice_get m.functions place ≡ Some f → IsFound m main place
-    at f here =
-        let body : is_body f ≡ true = ap not (sym (ap (λ o. option_map_or (λ (x : Function). is_extern x.linkage) o false) here) ∙ defined) in
-        let r = numbered (λ (x : Function). x.name) (codes ".") is_body 0 m.functions place f here body in
-        let first : 0 + r.0 ≡ r.0 = omega arith in
-        let symbol : function_symbol m place ≡ symbol_by f.name (codes ".") r.0 =
-        ap (λ o. unwrap_or o []) r.2 ∙ ap (λ (n : ℕ). symbol_by f.name (codes ".") n) first in
-        let number : function_number m place ≡ r.0 = get_or_from_slice_get (numbers_from is_body 0 m.functions) place (0 + r.0) 0 r.1 ∙ first in
-        let there : slice_get (symbols_of_functions m) r.0 ≡ Some (symbol_by f.name (codes ".") r.0) =
-        symbol_at m r.0 ∙ ap (option_map (λ (x : Function). symbol_by x.name (codes ".") r.0)) r.3 in
-        record {
-          function = f;
-          here = here;
-          there = ap (slice_get (filter is_body m.functions)) number ∙ r.3;
-          named =
-              ap (place_among (symbols_of_functions m)) symbol
-              ∙ symbol_found (codes ".") functions_apart (symbols_of_functions m) f.name r.0 (omega (arith, r.4, lt, checked.stated.items)) there (functions_there m)
-              ∙ sym number;
-        }
+    by : (b : Bool) → is_zeroed merged k ≡ b → (list_any (nat_eq k) (stored_arrays merged ks) || list_any (nat_eq k) (zeroed_arrays merged ks)) ≡ true
+    by true zeroed =
+        ap (λ (c : Bool). list_any (nat_eq k) (stored_arrays merged ks) || c) (still_there (is_zeroed merged) k zeroed ks h)
+        ∙ or_true (list_any (nat_eq k) (stored_arrays merged ks))
+    by false zeroed =
+        ap (λ (c : Bool). c || list_any (nat_eq k) (zeroed_arrays merged ks)) (still_there (λ n. not (is_zeroed merged n)) k (ap not zeroed) ks h)
 
-    by : (o : Option Function) → slice_get m.functions place ≡ o → IsFound m main place
-    by None e = absurd (past m.functions place lt e)
-    by (Some f) e = at f e
+abbrev name_of : Merged → ℕ → List ℕ
+name_of merged number = option_map_or (λ (a : MergedArray). a.name) (slice_get merged.arrays number) []
+
+-- a number of an array, by whose symbol it is known
+record IsNumber (merged : Merged) (number : ℕ) : Type 0 where
+  few : number < 2 ^ 64
+  name : IsIdentifier (name_of merged number)
+
+same_array : (merged : Merged) (k j : ℕ) → IsNumber merged k → IsNumber merged j → array_symbol merged k ≡ array_symbol merged j → k ≡ j
+same_array merged k j own other same =
+    same_decimal k j own.few other.few
+    (ap (λ (bytes : List ℕ). drop 1 bytes) (sym (behind_array (name_of merged k) k own.name) ∙ ap behind same ∙ behind_array (name_of merged j) j other.name))
+
+-- of some arrays, each of which has its number under its symbol, one is found by its own
+value_found : (merged : Merged) (k other : ℕ) → IsNumber merged k → (ks : List ℕ) → All (IsNumber merged) ks → list_any (nat_eq k) ks ≡ true
+    → value_of other (array_symbol merged k) (map (λ j. (array_symbol merged j, j)) ks) ≡ k
+value_found merged k other own [] all h = absurd (true≢false (sym h))
+value_found merged k other own (j ∷ ks) all h =
+    by (bytes_eq (array_symbol merged k) (array_symbol merged j)) refl (value_found merged k other own ks (All-tail (IsNumber merged) j ks all))
+  where
+    later : (c : Bool) → nat_eq k j ≡ c → bytes_eq (array_symbol merged k) (array_symbol merged j) ≡ false → (c || list_any (nat_eq k) ks) ≡ true → list_any (nat_eq k) ks ≡ true
+    later true same differ more =
+        absurd (true≢false (sym ((bytes_eq-Decides (array_symbol merged k) (array_symbol merged j)).1 (ap (array_symbol merged) (same_number k j same))) ∙ differ))
+    later false same differ more = more
+
+    rest : List (List ℕ × ℕ)
+    rest = filter (λ e. bytes_eq (array_symbol merged k) e.0) (map (λ n. (array_symbol merged n, n)) ks)
+
+    by : (b : Bool) → bytes_eq (array_symbol merged k) (array_symbol merged j) ≡ b
+        → (list_any (nat_eq k) ks ≡ true → unwrap_or (slice_get (map (λ e. e.1) rest) 0) other ≡ k)
+        → unwrap_or (slice_get (map (λ e. e.1) (cond b ((array_symbol merged j, j) ∷ rest) rest)) 0) other ≡ k
+    by true test found =
+        sym (same_array merged k j own (All-head (IsNumber merged) j ks all) ((bytes_eq-Decides (array_symbol merged k) (array_symbol merged j)).0 test))
+    by false test found = found (later (nat_eq k j) refl test h)
+
+-- each array of the link has a name
+is_number : (p : Program) (merged : Merged) → IsSummarised p merged → (array : ℕ) → array < length merged.arrays → IsNumber merged array
+is_number p merged summarised array lt =
+    let count : length merged.arrays ≡ length p.arrays =
+    sym (length-map merged.arrays (λ (a : MergedArray). a.item)) ∙ ap (λ (xs : List Array). length xs) summarised.items in
+    let r = there merged.arrays array lt in
+    let item = mapped_at (λ (a : MergedArray). a.item) merged.arrays array r.0 r.1 in
+    let small = all_at IsSmallArray p.arrays summarised.arrays array r.0.item (ap (λ (xs : List Array). slice_get xs array) (sym summarised.items) ∙ item) in
+    let named : name_of merged array ≡ r.0.item.name =
+    ap (λ o. option_map_or (λ (a : MergedArray). a.name) o []) r.1 ∙ all_at (λ (a : MergedArray). a.name ≡ a.item.name) merged.arrays summarised.names array r.0 r.1 in
+    record { few = omega (arith, lt, count, summarised.few_arrays); name = subst IsIdentifier (sym named) small.name }
+
+-- a kept array's symbol names it
+pub array_found : (p : Program) (merged : Merged) (plan : Plan) → IsSummarised p merged → IsPlanned merged plan → (array : ℕ) → array < length p.arrays → list_any (nat_eq array) plan.arrays ≡ true
+    → (linked p merged plan).array_named (array_symbol merged array) ≡ array
+array_found p merged plan summarised planned array lt kept =
+    let count : length merged.arrays ≡ length p.arrays =
+    sym (length-map merged.arrays (λ (a : MergedArray). a.item)) ∙ ap (λ (xs : List Array). length xs) summarised.items in
+    let numbers = All-weaker (λ (a : ℕ). a < length merged.arrays) (IsNumber merged) (is_number p merged summarised) plan.arrays planned.arrays in
+    let all = All-append (IsNumber merged) (stored_arrays merged plan.arrays) (zeroed_arrays merged plan.arrays)
+    (All-filter (λ n. not (is_zeroed merged n)) (IsNumber merged) plan.arrays numbers) (All-filter (is_zeroed merged) (IsNumber merged) plan.arrays numbers) in
+    value_found merged array (length merged.arrays) (is_number p merged summarised array (omega (arith, lt, count))) (arrays_in_order merged plan.arrays) all
+    (in_order merged array plan.arrays kept)

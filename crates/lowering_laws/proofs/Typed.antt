@@ -1,112 +1,81 @@
--- The versions of a whole program are a well formed program of versions.
-use Rattle.std.proofs.Common.{◌≡◌, ◌≢◌, ◌+◌, ◌<◌, ◌≤◌, ℕ, zero, suc, List, [], ◌∷◌, length, map, take, Bool, true, false, true≢false, Some, None, refl, sym, ap, ◌∙◌, subst, arith, codes}
-use Rattle.std.specs.Prelude.{All, Option, ◌&&◌, ◌||◌, not, slice_get, filter, option_map, nat_eq, position}
-use Rattle.std.specs.List.{flat_map, list_all, list_any, zip}
+-- The versions of a plan are a well formed program of versions.
+use Rattle.std.proofs.Common.{◌≡◌, ◌≢◌, ◌+◌, ◌<◌, ◌≤◌, ℕ, zero, suc, List, [], ◌∷◌, length, take, Bool, true, false, true≢false, Some, None, refl, sym, ap, ◌∙◌, subst, arith}
+use Rattle.std.specs.Prelude.{All, Option, IsSomeAnd, slice_get, option_map, nat_eq}
+use Rattle.std.specs.List.{flat_map, list_all, zip}
 use Rattle.std.specs.Option.{option_map_or, option_and_then}
-use Rattle.std.specs.Str.{bytes_eq}
-use Rattle.std.proofs.lemmas.Bool.Decides.{nat_tests}
-use Rattle.std.proofs.lemmas.Option.{none-some, same_Some, slice_get-map, slice_get_within, get_or_from_slice_get}
+use Rattle.std.proofs.lemmas.Option.{none-some, same_Some, slice_get-map, slice_get_within}
 use Rattle.std.proofs.lemmas.List.Concat.{length-flat_map}
-use Rattle.std.proofs.lemmas.List.Elements.{All-nil, All-cons}
+use Rattle.std.proofs.lemmas.List.Elements.{All-nil, All-cons, All-from_recursion}
 use Rattle.std.proofs.lemmas.List.FromFn.{length-map-range_with_len}
-use Rattle.std.proofs.lemmas.List.Quantifiers.{position-Some}
 use Rattle.std.proofs.lemmas.List.Sums.{sum_by-cons}
 use Rattle.gimple_ir.specs.declared.types.ScalarType.{ScalarType}
 use Rattle.gimple_ir.specs.declared.types.ScalarType.TheVariants.{Int}
-use Rattle.gimple_ir.specs.declared.types.ResultType.{ResultType}
 use Rattle.gimple_ir.specs.declared.types.ResultType.TheVariants as returned
 use Rattle.gimple_ir.specs.declared.types.Operand.{Operand}
 use Rattle.gimple_ir.specs.declared.types.Operand.TheVariants.{Component}
 use Rattle.gimple_ir.specs.declared.types.Arg.{Arg}
 use Rattle.gimple_ir.specs.declared.types.Variable.{Variable}
 use Rattle.gimple_ir.specs.declared.types.Function.{Function}
-use Rattle.gimple_ir.specs.declared.types.Module.{Module}
+use Rattle.gimple_ir.specs.declared.types.Program.{Program}
 use Rattle.gimple_ir.specs.declared.types.Value.{Value}
 use Rattle.gimple_ir.specs.declared.types.Statement.{Statement}
 use Rattle.gimple_ir.specs.declared.types.Statement.TheVariants.{Nop, Label, Goto, Cond, Switch, ReturnVoid, Return, Copy, Unary, Convert, Binary, Load, Store, CopyStruct, Call, Putchar, Getchar, Exit}
-use Rattle.gimple_ir.specs.declared.fault.TypeKind.{TypeKind}
-use Rattle.gimple_ir.specs.declared.fault.TypeKind.TheVariants.{DoubleName, UnknownName, TooMany, BadLabel, OpenEnd}
 use Rattle.gimple_ir.specs.declared.lattice.Binding.{Binding}
 use Rattle.gimple_ir.specs.declared.lattice.Binding.TheVariants as binding
+use Rattle.gimple_ir.specs.declared.plan.Version.{Version}
+use Rattle.gimple_ir.specs.declared.plan.Plan.{Plan}
+use Rattle.gimple_ir.specs.declared.merged.Merged.{Merged}
 use Rattle.gimple_ir.specs.declared.versioned.Pair.{Pair}
 use Rattle.gimple_ir.specs.declared.versioned.Step.{Step}
 use Rattle.gimple_ir.specs.declared.versioned.VersionedFunction.{VersionedFunction}
-use Rattle.gimple_ir.specs.Names.{is_among, is_builtin, repeats}
 use Rattle.gimple_ir.specs.CodeBound.{components_in, parameter_components}
-use Rattle.gimple_ir.specs.Statements.{ByNumber, component_types, is_comparison, alike, is_void, argument_fits, arguments_fit, knows, knows_component, knows_operand, knows_target, knows_function, knows_argument, knows_array, counts_arguments, types_fit, type_of_element, type_of_call, type_of_result, result_fits, first_failed}
+use Rattle.gimple_ir.specs.Statements.{is_comparison, alike, is_void, argument_fits, arguments_fit, knows, knows_component, knows_operand, knows_target, knows_function, knows_argument, knows_array, counts_arguments, types_fit, type_of_element, type_of_call, type_of_result, result_fits}
 use Rattle.gimple_ir.specs.Statements as source
-use Rattle.gimple_ir.specs.Checks.{scope_in, knows_struct, faults_from, fault_at, struct_fault, array_fault, function_fault, statements_fault, names_before, head_kind, bound_kind, body_of, labels_stand, counts_fit, ends_closed, is_extern}
-use Rattle.gimple_ir.specs.Programs.{IsChecked, IsIdentifier, AgreesIn, IsOperand, HasValues}
-use Rattle.func_summary.proofs.Checked.{both-true, below, all_at, three-none, fault_at-none, faults_from-none, first_failed-none}
+use Rattle.gimple_ir.specs.Programs.{IsProgramFunction, IsOperand, HasValues, scope_of}
+use Rattle.gimple_meaning.specs.Source.{operands_of}
+use Rattle.func_summary.specs.Summarised.{IsSummarised}
+use Rattle.func_summary.proofs.Checked.{both-true, below, all_at}
+use Rattle.ipa_plan.specs.Plans.{bindings_of}
+use Rattle.ipa_plan.specs.Laws.{IsPlanned}
 use Rattle.ipa_transform.specs.Versioned.{step_of, picked, kept_of}
 use Rattle.ipa_transform.specs.Versioned as lowered
 use Rattle.rv64_select.specs.Assembly.{type_of, type_of_component}
-use Rattle.program_link.specs.Numbers.{is_body, function_number}
-use Rattle.program_link.specs.Lowering.{functions_of, bindings_of, member_of}
-use Rattle.program_link.specs.Linking.{is_declared_function, names_declaration, is_main, is_global, gives_int}
-use Rattle.program_link.proofs.Fitting.{version_fits}
-use Rattle.program_link.proofs.Facts.{three_true, four_true, all_true, Facts, facts}
+use Rattle.rv64_select.specs.Versioned.{IsVersioned}
+use Rattle.program_link.specs.Versions.{member_of, version_in, functions_of}
+use Rattle.program_link.proofs.Facts.{three_true, same_number}
 use Rattle.machine_laws.specs.Linked.{callee_number}
 use Rattle.machine_laws.specs.Typed.{TargetTyped, ArgumentsTyped, StepTyped, FunctionTyped, ProgramTyped}
-use Rattle.lowering_laws.specs.Whole.{IsWhole}
-use Rattle.lowering_laws.specs.Linked.{result_type_of, linked_of}
-use Rattle.lowering_laws.proofs.Numbered.{from_items, enumerated, ranged}
-use Rattle.lowering_laws.proofs.Named.{version_at, function_found, names_none}
+use Rattle.lowering_laws.specs.States.{function_of_version}
+use Rattle.lowering_laws.specs.Linked.{result_type_of, linked}
+use Rattle.lowering_laws.proofs.Lists.{there, from_mapped, ranged}
+use Rattle.program_link.proofs.VersionFacts.{VersionFacts, versions_have}
+use Rattle.program_link.proofs.Fitting.{version_fits}
+use Rattle.lowering_laws.proofs.Standing.{whole_member, version_at, standing, version_same}
+use Rattle.lowering_laws.proofs.Named.{function_there, main_same}
 use Rattle.lowering_laws.proofs.Bodies.{calls_before, step_at, pairs_same}
 use Rattle.lowering_laws.proofs.Uses.{Known, known}
 use Rattle.lowering_laws.proofs.Acting.{types_same}
 use Rattle.lowering_laws.proofs.Labelled.{labels_once}
-use Rattle.lowering_laws.proofs.Typing.{there, component_type, alike_is, operands_alike, operand_type, Agree, copies_typed}
+use Rattle.lowering_laws.proofs.Typing.{component_type, alike_is, operands_alike, operand_type, copies_typed}
 use Rattle.lowering_laws.proofs.Stepping.{cases_typed, binary_typed, array_typed, given_is, result_is, target_typed, argument_values, bound_here, passed_typed}
-
-abbrev defined : Module → List Function
-defined m = filter is_body m.functions
-
-pub version_there : (m : Module) (g : ℕ) (f : Function) → slice_get (defined m) g ≡ Some f → slice_get (functions_of m) g ≡ Some (version_at m g f)
-version_there m g f here =
-    let first : 0 + g ≡ g = omega arith in
-    enumerated (λ e. version_at m e.0 e.1) 0 (defined m) g ∙ ap (option_map (λ (x : Function). version_at m (0 + g) x)) here ∙ ap (λ (n : ℕ). Some (version_at m n f)) first
-
-agree_of : (m : Module) (f : Function) → Facts m f → Agree m f.variables
-agree_of m f k x w here = (
-  (all_at (λ v. IsIdentifier v.name × AgreesIn m.structs v.ty v.types) f.variables k.stated.variables x w here).1,
-  all_true (λ v. knows_struct (length m.structs) v.ty) f.variables k.structs x w here,
-)
 
 -- ---- main
 
-record MainStands (m : Module) (main : ℕ) : Type 0 where
-  function : Function
-  here : slice_get (defined m) main ≡ Some function
-  none : function.parameters ≡ 0
-  gives : gives_int function.result ≡ true
+-- takes no parameters, and returns `int`
+abbrev IsMain : Function → Type 0
+IsMain f = (f.parameters ≡ 0) × (f.result ≡ returned.Scalar Int)
 
-same_number : (a b : ℕ) → nat_eq a b ≡ true → a ≡ b
-same_number a b h = grind (arith, nat_tests)
-
-main_inside : (fs : List Function) (main : ℕ) → position is_main fs ≡ Some main → main < length fs
-main_inside [] main begins = absurd (none-some main begins)
-main_inside (f ∷ fs) main begins = (position-Some is_main (f ∷ fs) main f begins).0
-
-main_stands : (m : Module) (main : ℕ) → IsWhole m main → MainStands m main
-main_stands m main whole =
-    let lt = main_inside (defined m) main whole.begins in
-    let r = there (defined m) main lt in
-    let test = (position-Some is_main (defined m) main r.0 whole.begins).1 in
-    let passed : is_main r.0 ≡ true = ap is_main (sym (get_or_from_slice_get (defined m) main r.0 r.0 r.1)) ∙ test in
-    let four = four_true (bytes_eq r.0.name (codes "main")) (is_global r.0.linkage) (nat_eq r.0.parameters 0) (gives_int r.0.result) passed in
-    record { function = r.0; here = r.1; none = same_number r.0.parameters 0 four.2; gives = four.3 }
-
-void_int : (r : ResultType) → is_void r ≡ true → gives_int r ≡ true → ⊥
-void_int returned.Void void int = true≢false (sym int)
-void_int (returned.Scalar t) void int = true≢false (sym void)
+main_is : (p : Program) (merged : Merged) (f : Function) → IsSummarised p merged → slice_get p.functions p.main ≡ Some f → IsMain f
+main_is p merged f summarised here = subst (λ (o : Option Function). IsSomeAnd o IsMain) here summarised.program.main
 
 -- a function that gives nothing is not the first
-not_main : (m : Module) (main number : ℕ) (f : Function) → IsWhole m main → slice_get (defined m) number ≡ Some f → is_void f.result ≡ true → number ≢ main
-not_main m main number f whole here void same =
-    let first = main_stands m main whole in
-    let equal : f ≡ first.function = same_Some f first.function (sym here ∙ ap (slice_get (defined m)) same ∙ first.here) in
-    void_int first.function.result (subst (λ (g : Function). is_void g.result ≡ true) equal void) first.gives
+not_main : (p : Program) (merged : Merged) (plan : Plan) → IsSummarised p merged → IsPlanned merged plan → (g : ℕ) (v : Version) (f : Function) → slice_get plan.versions g ≡ Some v → slice_get p.functions v.function ≡ Some f
+    → is_void f.result ≡ true → g ≢ (linked p merged plan).main
+not_main p merged plan summarised planned g v f at here void same =
+    let number : v.function ≡ p.main =
+    sym (function_there p plan g v at) ∙ ap (function_of_version p plan) same ∙ main_same p merged plan summarised planned in
+    let int = (main_is p merged f summarised (ap (slice_get p.functions) (sym number) ∙ here)).1 in
+    true≢false (sym void ∙ ap is_void int)
 
 -- ---- calls
 
@@ -115,133 +84,140 @@ mapped h None y d e = absurd (none-some y e)
 mapped h (Some x) y d e = same_Some (h x) y e
 
 -- the operands that the call passes
-abbrev picked_here : Module → ℕ → Function → ℕ → List Arg → List Operand
-picked_here m number f n args = picked (flat_map (lowered.operands_of (member_of m number f).variables) args) (kept_of (member_of m number f).calls n)
+abbrev picked_here : Program → Merged → Plan → Version → Function → ℕ → List Arg → List Operand
+picked_here p merged plan v f n args = picked (flat_map (lowered.operands_of (member_of p merged plan v f).variables) args) (kept_of (member_of p merged plan v f).calls n)
 
-call_typed : (m : Module) (main number : ℕ) (f : Function) (n : ℕ) (to : Option ℕ) (g : ℕ) (args : List Arg) → IsWhole m main → Facts m f → HasValues (Call to g args)
-    → knows (scope_in m f) (Call to g args) ≡ true → counts_arguments (scope_in m f) (Call to g args) ≡ true → types_fit (scope_in m f) (Call to g args) ≡ true → is_declared_function m g ≡ false
-    → Known m main number f n (Call to g args) → StepTyped (linked_of m main) number (version_at m number f) (step_of (member_of m number f) n (Call to g args))
-call_typed m main number f n to g args whole k values names counts types declared stands =
-    let sc = scope_in m f in
-    let v = version_at m number f in
-    let p = linked_of m main in
-    let lt = below g (length m.functions) (three_true (knows_target sc to) (knows_function sc g) (list_all (knows_argument sc) args) names).1 in
-    let found = function_found m main g whole.checked lt declared in
-    let c = found.function in
-    let F = function_number m g in
-    let other = facts m g c whole.checked found.here in
-    let callee : callee_number p v n ≡ F = mapped p.function_named (slice_get v.calls n) F (length p.functions) (sym (slice_get-map p.function_named v.calls n) ∙ stands.0) in
-    let fit = both-true (arguments_fit sc g args) (result_fits sc to (type_of_call sc g)) types in
-    let count = same_number (length args) c.parameters (ap (λ (o : Option Function). option_map_or (λ called. nat_eq (length args) called.parameters) o true) (sym found.here) ∙ counts) in
-    let each = ap (λ (o : Option Function). option_map_or (λ called. list_all (λ pair. argument_fits sc pair.0 pair.1) (zip args called.variables)) o false) (sym found.here) ∙ fit.0 in
-    let result = λ (ty : ScalarType) (e : type_of_call sc g ≡ Some ty).
-    result_is m F c found.there ∙ given_is c.result ty (ap (λ (o : Option Function). option_and_then (λ called. type_of_result called.result) o) (sym found.here) ∙ e) in
-    let typed = passed_typed m number F f c args (agree_of m f k) (agree_of m c other) count other.stated.parameters each in (
-      subst (λ (ops : List Operand). All IsOperand ops) (sym stands.1) (argument_values f.variables args values),
-      subst (λ (j : ℕ). TargetTyped v to (result_type_of m j)) (sym callee) (target_typed m number f to (type_of_call sc g) (result_type_of m F) fit.1 result),
-      λ called at.
-          let same : version_at m F c ≡ called = same_Some (version_at m F c) called (sym (version_there m F c found.there) ∙ ap (slice_get (functions_of m)) (sym callee) ∙ at) in
-          subst (λ (w : VersionedFunction). ArgumentsTyped v w (picked_here m number f n args)) same (subst (λ (ops : List Operand). ArgumentsTyped v (version_at m F c) ops) (sym stands.1) typed),
+-- what stands at a place of the versions
+record Found (p : Program) (merged : Merged) (plan : Plan) (g : ℕ) (w : VersionedFunction) : Type 0 where
+  version : Version
+  at : slice_get plan.versions g ≡ Some version
+  function : Function
+  stands : VersionFacts p merged plan version function
+  same : version_at p merged plan version function ≡ w
+
+version_here : (p : Program) (merged : Merged) (plan : Plan) → IsSummarised p merged → IsPlanned merged plan → (g : ℕ) (w : VersionedFunction) → slice_get (functions_of p merged plan) g ≡ Some w
+    → Found p merged plan g w
+version_here p merged plan summarised planned g w at =
+    let from = from_mapped (version_in p merged plan) plan.versions g w at in
+    let k = standing p merged plan summarised planned g from.0 from.1 in
+    record { version = from.0; at = from.1; function = k.0; stands = k.1; same = sym (version_same p merged plan from.0 k.0 k.1) ∙ from.2 }
+
+call_typed : (p : Program) (merged : Merged) (plan : Plan) → IsSummarised p merged → IsPlanned merged plan → (g : ℕ) (v : Version) (f : Function) (n : ℕ) (to : Option ℕ) (called : ℕ) (args : List Arg)
+    → HasValues (Call to called args) → knows (scope_of p f) (Call to called args) ≡ true → counts_arguments (scope_of p f) (Call to called args) ≡ true
+    → types_fit (scope_of p f) (Call to called args) ≡ true → Known p merged plan v f n (Call to called args)
+    → StepTyped (linked p merged plan) g (version_at p merged plan v f) (step_of (whole_member p merged plan v f) n (Call to called args))
+call_typed p merged plan summarised planned g v f n to called args values names counts types stands =
+    let sc = scope_of p f in
+    let own = version_at p merged plan v f in
+    let q = linked p merged plan in
+    let lt = below called (length p.functions) (three_true (knows_target sc to) (knows_function sc called) (list_all (knows_argument sc) args) names).1 in
+    let found = there p.functions called lt in
+    let c = found.0 in
+    let stated = all_at (IsProgramFunction p) p.functions summarised.program.functions called c found.1 in
+    let callee : callee_number q own n ≡ stands.0 = mapped q.function_named (slice_get own.calls n) stands.0 (length q.functions) (sym (slice_get-map q.function_named own.calls n) ∙ stands.1) in
+    let fit = both-true (arguments_fit sc called args) (result_fits sc to (type_of_call sc called)) types in
+    let count = same_number (length args) c.parameters (ap (λ (o : Option Function). option_map_or (λ h. nat_eq (length args) h.parameters) o true) (sym found.1) ∙ counts) in
+    let each = ap (λ (o : Option Function). option_map_or (λ h. list_all (λ pair. argument_fits sc pair.0 pair.1) (zip args h.variables)) o false) (sym found.1) ∙ fit.0 in
+    let result = λ (ty : ScalarType) (e : type_of_call sc called ≡ Some ty).
+    result_is p plan stands.0 called c stands.2 found.1 ∙ given_is c.result ty (ap (λ (o : Option Function). option_and_then (λ h. type_of_result h.result) o) (sym found.1) ∙ e) in (
+      subst (λ (ops : List Operand). All IsOperand ops) (sym stands.3) (argument_values f.variables args values),
+      subst (λ (j : ℕ). TargetTyped own to (result_type_of p plan j)) (sym callee) (target_typed p merged plan v f to (type_of_call sc called) (result_type_of p plan stands.0) fit.1 result),
+      λ w at.
+          let r = version_here p merged plan summarised planned stands.0 w (ap (slice_get (functions_of p merged plan)) (sym callee) ∙ at) in
+          let number : r.version.function ≡ called = sym (function_there p plan stands.0 r.version r.at) ∙ stands.2 in
+          let same : r.function ≡ c = same_Some r.function c (sym r.stands.here ∙ ap (slice_get p.functions) number ∙ found.1) in
+          let typed = passed_typed p merged plan v r.version f c args count stated.parameters each in
+          let typed_there = subst (λ (h : Function). ArgumentsTyped own (version_at p merged plan r.version h) (flat_map (operands_of f.variables) args)) (sym same) typed in
+          subst (λ (u : VersionedFunction). ArgumentsTyped own u (picked_here p merged plan v f n args)) r.same
+          (subst (λ (ops : List Operand). ArgumentsTyped own (version_at p merged plan r.version r.function) ops) (sym stands.3) typed_there),
     )
 
 -- ---- steps
 
--- what is known of a statement of the function with a number
-record Stands (m : Module) (main number : ℕ) (f : Function) (i : ℕ) (s : Statement) : Type 0 where
-  whole : IsWhole m main
-  facts : Facts m f
-  own : slice_get (defined m) number ≡ Some f
+-- what is known of a statement of the function of a version
+record Stands (p : Program) (merged : Merged) (plan : Plan) (g : ℕ) (v : Version) (f : Function) (i : ℕ) (s : Statement) : Type 0 where
+  summarised : IsSummarised p merged
+  planned : IsPlanned merged plan
+  own : slice_get plan.versions g ≡ Some v
+  version : VersionFacts p merged plan v f
   here : slice_get f.body i ≡ Some s
   values : HasValues s
-  names : knows (scope_in m f) s ≡ true
-  counts : counts_arguments (scope_in m f) s ≡ true
-  types : types_fit (scope_in m f) s ≡ true
-  declared : names_declaration m s ≡ false
-  known : Known m main number f (calls_before 0 f.body i) s
+  names : knows (scope_of p f) s ≡ true
+  counts : counts_arguments (scope_of p f) s ≡ true
+  types : types_fit (scope_of p f) s ≡ true
+  known : Known p merged plan v f (calls_before 0 f.body i) s
 
-step_typed : (m : Module) (main number : ℕ) (f : Function) (i : ℕ) (s : Statement) → Stands m main number f i s
-    → StepTyped (linked_of m main) number (version_at m number f) (step_of (member_of m number f) (calls_before 0 f.body i) s)
-step_typed m main number f i Nop k = tt
-step_typed m main number f i (Label l) k = tt
-step_typed m main number f i (Goto l) k = tt
-step_typed m main number f i (Cond op a b met missed) k =
-    let r = both-true (is_comparison op) (alike (source.type_of (scope_in m f) a) (source.type_of (scope_in m f) b)) k.types in
-    (k.values.0, k.values.1, r.0, operands_alike m number f a b r.1)
-step_typed m main number f i (Switch a cases otherwise) k = (k.values.0, cases_typed m number f a cases k.values.1 k.types)
-step_typed m main number f i ReturnVoid k = not_main m main number f k.whole k.own k.types
-step_typed m main number f i (Return a) k =
-    let r = alike_is (type_of_result f.result) (source.type_of (scope_in m f) a) k.types in
-    (k.values, operand_type m number f a r.0 r.2 ∙ sym (result_is m number f k.own ∙ given_is f.result r.0 r.1))
-step_typed m main number f i (Copy to a) k =
-    let P = λ (c : Pair). IsOperand c.from × (type_of (version_at m number f) c.from ≡ type_of_component (version_at m number f) c.to) in
-    All-cons P (record { to = to; from = a }) [] (k.values, sym (operands_alike m number f (Component to) a k.types)) (All-nil P)
-step_typed m main number f i (Unary to op a) k = (k.values, sym (operands_alike m number f (Component to) a k.types))
-step_typed m main number f i (Convert to a) k = k.values
-step_typed m main number f i (Binary to op a b) k =
-    let n = three_true (knows_component (scope_in m f) to) (knows_operand (scope_in m f) a) (knows_operand (scope_in m f) b) k.names in
-    (k.values.0, k.values.1, binary_typed m number f op to a b n.0 n.1 n.2 k.types)
-step_typed m main number f i (Load to array a) k =
-    let n = three_true (knows_component (scope_in m f) to) (knows_array (scope_in m f) array) (knows_operand (scope_in m f) a) k.names in
-    let r = alike_is (source.type_of_component (scope_in m f) to) (type_of_element (scope_in m f) array) k.types in
-    (k.values, component_type m number f to r.0 r.1 ∙ sym (array_typed m number f i (Load to array a) array r.0 k.here refl (below array (length m.arrays) n.1) r.2))
-step_typed m main number f i (Store array a b) k =
-    let n = three_true (knows_array (scope_in m f) array) (knows_operand (scope_in m f) a) (knows_operand (scope_in m f) b) k.names in
-    let r = alike_is (type_of_element (scope_in m f) array) (source.type_of (scope_in m f) b) k.types in
-    (k.values.0, k.values.1, operand_type m number f b r.0 r.2 ∙ sym (array_typed m number f i (Store array a b) array r.0 k.here refl (below array (length m.arrays) n.0) r.1))
-step_typed m main number f i (CopyStruct to from) k =
-    subst (λ (pairs : List Pair). All (λ c. IsOperand c.from × (type_of (version_at m number f) c.from ≡ type_of_component (version_at m number f) c.to)) pairs) (sym (pairs_same f.variables to from))
-    (copies_typed m number f to from (agree_of m f k.facts) (slice_get f.variables to) (slice_get f.variables from) refl refl k.types)
-step_typed m main number f i (Call to g args) k =
-    call_typed m main number f (calls_before 0 f.body i) to g args k.whole k.facts k.values k.names k.counts k.types k.declared k.known
-step_typed m main number f i (Putchar a) k = k.values
-step_typed m main number f i (Getchar to) k = target_typed m number f to (Some Int) Int k.types (λ ty e. same_Some Int ty e)
-step_typed m main number f i (Exit a) k = k.values
+step_typed : (p : Program) (merged : Merged) (plan : Plan) (g : ℕ) (v : Version) (f : Function) (i : ℕ) (s : Statement) → Stands p merged plan g v f i s
+    → StepTyped (linked p merged plan) g (version_at p merged plan v f) (step_of (whole_member p merged plan v f) (calls_before 0 f.body i) s)
+step_typed p merged plan g v f i Nop k = tt
+step_typed p merged plan g v f i (Label l) k = tt
+step_typed p merged plan g v f i (Goto l) k = tt
+step_typed p merged plan g v f i (Cond op a b met missed) k =
+    let r = both-true (is_comparison op) (alike (source.type_of (scope_of p f) a) (source.type_of (scope_of p f) b)) k.types in
+    (k.values.0, k.values.1, r.0, operands_alike p merged plan v f a b r.1)
+step_typed p merged plan g v f i (Switch a cases otherwise) k = (k.values.0, cases_typed p merged plan v f a cases k.values.1 k.types)
+step_typed p merged plan g v f i ReturnVoid k = not_main p merged plan k.summarised k.planned g v f k.own k.version.here k.types
+step_typed p merged plan g v f i (Return a) k =
+    let r = alike_is (type_of_result f.result) (source.type_of (scope_of p f) a) k.types in
+    (k.values, operand_type p merged plan v f a r.0 r.2 ∙ sym (result_is p plan g v.function f (function_there p plan g v k.own) k.version.here ∙ given_is f.result r.0 r.1))
+step_typed p merged plan g v f i (Copy to a) k =
+    let P = λ (c : Pair). IsOperand c.from × (type_of (version_at p merged plan v f) c.from ≡ type_of_component (version_at p merged plan v f) c.to) in
+    All-cons P (record { to = to; from = a }) [] (k.values, sym (operands_alike p merged plan v f (Component to) a k.types)) (All-nil P)
+step_typed p merged plan g v f i (Unary to op a) k = (k.values, sym (operands_alike p merged plan v f (Component to) a k.types))
+step_typed p merged plan g v f i (Convert to a) k = k.values
+step_typed p merged plan g v f i (Binary to op a b) k =
+    let n = three_true (knows_component (scope_of p f) to) (knows_operand (scope_of p f) a) (knows_operand (scope_of p f) b) k.names in
+    (k.values.0, k.values.1, binary_typed p merged plan v f op to a b n.0 n.1 n.2 k.types)
+step_typed p merged plan g v f i (Load to array a) k =
+    let n = three_true (knows_component (scope_of p f) to) (knows_array (scope_of p f) array) (knows_operand (scope_of p f) a) k.names in
+    let r = alike_is (source.type_of_component (scope_of p f) to) (type_of_element (scope_of p f) array) k.types in (
+      k.values,
+      component_type p merged plan v f to r.0 r.1
+          ∙ sym (array_typed p merged plan k.summarised v f i (Load to array a) array r.0 k.here refl (below array (length p.arrays) n.1) r.2),
+    )
+step_typed p merged plan g v f i (Store array a b) k =
+    let n = three_true (knows_array (scope_of p f) array) (knows_operand (scope_of p f) a) (knows_operand (scope_of p f) b) k.names in
+    let r = alike_is (type_of_element (scope_of p f) array) (source.type_of (scope_of p f) b) k.types in (
+      k.values.0,
+      k.values.1,
+      operand_type p merged plan v f b r.0 r.2
+          ∙ sym (array_typed p merged plan k.summarised v f i (Store array a b) array r.0 k.here refl (below array (length p.arrays) n.0) r.1),
+    )
+step_typed p merged plan g v f i (CopyStruct to from) k =
+    let own = version_at p merged plan v f in
+    subst (λ (pairs : List Pair). All (λ c. IsOperand c.from × (type_of own c.from ≡ type_of_component own c.to)) pairs) (sym (pairs_same f.variables to from))
+    (copies_typed p merged plan v f to from (slice_get f.variables to) (slice_get f.variables from) refl refl k.types)
+step_typed p merged plan g v f i (Call to called args) k =
+    call_typed p merged plan k.summarised k.planned g v f (calls_before 0 f.body i) to called args k.values k.names k.counts k.types k.known
+step_typed p merged plan g v f i (Putchar a) k = k.values
+step_typed p merged plan g v f i (Getchar to) k = target_typed p merged plan v f to (Some Int) Int k.types (λ ty e. same_Some Int ty e)
+step_typed p merged plan g v f i (Exit a) k = k.values
 
-steps_typed : (m : Module) (main number place : ℕ) (f : Function) → IsWhole m main → slice_get (defined m) number ≡ Some f → slice_get m.functions place ≡ Some f
-    → (at : ℕ) (step : Step) → slice_get (version_at m number f).body at ≡ Some step → StepTyped (linked_of m main) number (version_at m number f) step
-steps_typed m main number place f whole own here at step stands =
-    by (slice_get f.body at) refl (sym (step_at (member_of m number f) 0 f.body at) ∙ stands)
+steps_typed : (p : Program) (merged : Merged) (plan : Plan) → IsSummarised p merged → IsPlanned merged plan → (g : ℕ) (v : Version) (f : Function) → slice_get plan.versions g ≡ Some v → VersionFacts p merged plan v f
+    → (at : ℕ) (step : Step) → slice_get (version_at p merged plan v f).body at ≡ Some step → StepTyped (linked p merged plan) g (version_at p merged plan v f) step
+steps_typed p merged plan summarised planned g v f own k at step stands =
+    by (slice_get f.body at) refl (sym (step_at (whole_member p merged plan v f) 0 f.body at) ∙ stands)
   where
-    by : (o : Option Statement) → slice_get f.body at ≡ o → option_map (step_of (member_of m number f) (calls_before 0 f.body at)) o ≡ Some step
-        → StepTyped (linked_of m main) number (version_at m number f) step
+    by : (o : Option Statement) → slice_get f.body at ≡ o → option_map (step_of (whole_member p merged plan v f) (calls_before 0 f.body at)) o ≡ Some step
+        → StepTyped (linked p merged plan) g (version_at p merged plan v f) step
     by None e is = absurd (none-some step is)
     by (Some s) e is =
-        let k = facts m place f whole.checked here in
-        let p = k.passes at s e in
-        subst (λ (t : Step). StepTyped (linked_of m main) number (version_at m number f) t) (same_Some _ step is)
-        (step_typed m main number f at s (record {
-          whole = whole;
-          facts = k;
+        let passed = k.facts.passes at s e in
+        subst (λ (t : Step). StepTyped (linked p merged plan) g (version_at p merged plan v f) t) (same_Some _ step is)
+        (step_typed p merged plan g v f at s (record {
+          summarised = summarised;
+          planned = planned;
           own = own;
+          version = k;
           here = e;
-          values = all_at HasValues f.body k.stated.values at s e;
-          names = p.0;
-          counts = p.1;
-          types = p.2;
-          declared = names_none m whole.closed place f here at s e;
-          known = known m main number place f whole here at s e;
+          values = all_at HasValues f.body k.facts.sound.values at s e;
+          names = passed.0;
+          counts = passed.1;
+          types = passed.2;
+          known = known p merged plan summarised planned v f k at s e;
         }))
 
 -- ---- functions
-
-fourth_passes : (a b c d : Bool) (j k l n : TypeKind) (rest : List (Bool × TypeKind)) → first_failed ((a, j) ∷ (b, k) ∷ (c, l) ∷ (d, n) ∷ rest) ≡ None → d ≡ true
-fourth_passes true true true d j k l n rest h = first_failed-none d n rest h
-fourth_passes true true false d j k l n rest h = cc
-fourth_passes true false c d j k l n rest h = cc
-fourth_passes false b c d j k l n rest h = cc
-
-labels_pass : (m : Module) (place : ℕ) (f : Function) → IsChecked m → slice_get m.functions place ≡ Some f → labels_stand f ≡ true
-labels_pass m place f checked here =
-    let functions = (three-none (faults_from (struct_fault m) 0 m.structs) (faults_from (array_fault m) 0 m.arrays) (faults_from (function_fault m) 0 m.functions) checked.faultless).2 in
-    let none = faults_from-none (function_fault m) 0 m.functions functions place f here in
-    let item = length m.structs + length m.arrays + (0 + place) in
-    let double = is_among (names_before m (0 + place)) f.name in
-    let parts = three-none (fault_at item 0 (head_kind double (length m.structs) f)) (statements_fault (scope_in m f) item (body_of f)) (fault_at item 0 (bound_kind f)) none in
-    let head = fault_at-none item 0 (head_kind double (length m.structs) f) parts.0 in
-    let known = list_all (λ v. knows_struct (length m.structs) v.ty) f.variables in
-    let builtins = not (is_builtin f.name) && not (list_any (λ v. is_builtin v.name) f.variables) in
-    fourth_passes (not double && not (repeats (map (λ v. v.name) f.variables))) (builtins && known) (counts_fit f) (labels_stand f) DoubleName UnknownName TooMany BadLabel
-    ((is_extern f.linkage || ends_closed f.body, OpenEnd) ∷ []) head
 
 front_few : (vs : List Variable) (n : ℕ) → components_in (take n vs) ≤ components_in vs
 front_few [] zero = omega arith
@@ -253,22 +229,22 @@ abbrev is_argument : Binding → Bool
 is_argument (binding.Arg k) = true
 is_argument _ = false
 
-no_constant : (f : Function) (i : ℕ) (v : Value) → slice_get (bindings_of f) i ≡ Some (binding.Const v) → ⊥
-no_constant f i v here =
-    let inside : i < parameter_components f = omega (arith, slice_get_within (bindings_of f) i (binding.Const v) here, length-map-range_with_len binding.Arg 0 (parameter_components f)) in
-    true≢false (ap is_argument (same_Some (binding.Arg (0 + i)) (binding.Const v) (sym (ranged binding.Arg 0 (parameter_components f) i inside) ∙ here)))
+no_constant : (count i : ℕ) (x : Value) → slice_get (bindings_of count) i ≡ Some (binding.Const x) → ⊥
+no_constant count i x here =
+    let inside : i < count = omega (arith, slice_get_within (bindings_of count) i (binding.Const x) here, length-map-range_with_len binding.Arg 0 count) in
+    true≢false (ap is_argument (same_Some (binding.Arg (0 + i)) (binding.Const x) (sym (ranged binding.Arg 0 count i inside) ∙ here)))
 
-function_typed : (m : Module) (main number place : ℕ) (f : Function) → IsWhole m main → slice_get (defined m) number ≡ Some f → slice_get m.functions place ≡ Some f
-    → FunctionTyped (linked_of m main) number (version_at m number f)
-function_typed m main number place f whole own here =
-    let all : length (version_at m number f).types ≡ components_in f.variables =
-    ap (λ (ts : List ScalarType). length ts) (types_same f.variables) ∙ length-flat_map (λ (v : Variable). v.types) f.variables in
+function_typed : (p : Program) (merged : Merged) (plan : Plan) → IsSummarised p merged → IsPlanned merged plan → (g : ℕ) (v : Version) (f : Function) → slice_get plan.versions g ≡ Some v → VersionFacts p merged plan v f
+    → IsVersioned (version_at p merged plan v f) → FunctionTyped (linked p merged plan) g (version_at p merged plan v f)
+function_typed p merged plan summarised planned g v f own k fits =
+    let all : length (version_at p merged plan v f).types ≡ components_in f.variables =
+    ap (λ (ts : List ScalarType). length ts) (types_same f.variables) ∙ length-flat_map (λ (w : Variable). w.types) f.variables in
     record {
-      versioned = version_fits m place number f whole.checked here;
-      labels = labels_once m number f (labels_pass m place f whole.checked here);
+      versioned = fits;
+      labels = labels_once p merged plan v f k.facts.sound.labels;
       parameters = omega (arith, length-map-range_with_len binding.Arg 0 (parameter_components f), front_few f.variables f.parameters, all);
-      constants = λ i v at. absurd (no_constant f i v at);
-      steps = steps_typed m main number place f whole own here;
+      constants = λ i x at. absurd (no_constant (parameter_components f) i x at);
+      steps = steps_typed p merged plan summarised planned g v f own k;
     }
 
 -- ---- the program
@@ -281,24 +257,25 @@ no_parameters vs zero none = empty vs
     empty (w ∷ ws) = refl
 no_parameters vs (suc n) none = absurd (omega (arith, none))
 
-pub whole_typed : (m : Module) (main : ℕ) → IsWhole m main → ProgramTyped (linked_of m main)
-whole_typed m main whole = record { functions = functions; main = begins }
+versions_typed : (p : Program) (merged : Merged) (plan : Plan) → IsSummarised p merged → IsPlanned merged plan → All IsVersioned (functions_of p merged plan) → ProgramTyped (linked p merged plan)
+versions_typed p merged plan summarised planned fits = record { functions = functions; main = begins }
   where
-    at_version : (number : ℕ) (v : VersionedFunction) → slice_get (functions_of m) number ≡ Some v → (o : Option Function) → slice_get (defined m) number ≡ o
-        → (f : Function) × (slice_get (defined m) number ≡ Some f) × (version_at m number f ≡ v)
-    at_version number v at None e =
-        absurd (none-some v (ap (option_map (λ (x : Function). version_at m (0 + number) x)) (sym e) ∙ sym (enumerated (λ e. version_at m e.0 e.1) 0 (defined m) number) ∙ at))
-    at_version number v at (Some f) e = (f, e, same_Some (version_at m number f) v (sym (version_there m number f e) ∙ at))
+    functions : (g : ℕ) (w : VersionedFunction) → slice_get (functions_of p merged plan) g ≡ Some w → FunctionTyped (linked p merged plan) g w
+    functions g w at =
+        let r = version_here p merged plan summarised planned g w at in
+        let versioned = subst IsVersioned (sym r.same) (all_at IsVersioned (functions_of p merged plan) fits g w at) in
+        subst (λ (u : VersionedFunction). FunctionTyped (linked p merged plan) g u) r.same (function_typed p merged plan summarised planned g r.version r.function r.at r.stands versioned)
 
-    functions : (number : ℕ) (v : VersionedFunction) → slice_get (functions_of m) number ≡ Some v → FunctionTyped (linked_of m main) number v
-    functions number v at =
-        let r = at_version number v at (slice_get (defined m) number) refl in
-        let from = from_items is_body m.functions number r.0 r.1 in
-        subst (λ (w : VersionedFunction). FunctionTyped (linked_of m main) number w) r.2 (function_typed m main number from.0 r.0 whole r.1 from.1)
+    begins : (w : VersionedFunction) → slice_get (functions_of p merged plan) (linked p merged plan).main ≡ Some w → (i k : ℕ) → slice_get w.bindings i ≢ Some (binding.Arg k)
+    begins w at i k here =
+        let main = (linked p merged plan).main in
+        let r = version_here p merged plan summarised planned main w at in
+        let number : r.version.function ≡ p.main = sym (function_there p plan main r.version r.at) ∙ main_same p merged plan summarised planned in
+        let none = (main_is p merged r.function summarised (ap (slice_get p.functions) (sym number) ∙ r.stands.here)).0 in
+        let bound = bound_here (parameter_components r.function) i k (ap (λ (u : VersionedFunction). slice_get u.bindings i) r.same ∙ here) in
+        omega (arith, bound.0, no_parameters r.function.variables r.function.parameters none)
 
-    begins : (v : VersionedFunction) → slice_get (functions_of m) main ≡ Some v → (i k : ℕ) → slice_get v.bindings i ≢ Some (binding.Arg k)
-    begins v at i k here =
-        let first = main_stands m main whole in
-        let same : version_at m main first.function ≡ v = same_Some (version_at m main first.function) v (sym (version_there m main first.function first.here) ∙ at) in
-        let bound = bound_here first.function i k (ap (λ (w : VersionedFunction). slice_get w.bindings i) same ∙ here) in
-        omega (arith, bound.0, no_parameters first.function.variables first.function.parameters first.none)
+pub program_typed : (p : Program) (merged : Merged) (plan : Plan) → IsSummarised p merged → IsPlanned merged plan → ProgramTyped (linked p merged plan)
+program_typed p merged plan summarised planned =
+    let fits = versions_have p merged plan IsVersioned summarised planned (λ v f k. version_fits p merged plan v f summarised k) in
+    versions_typed p merged plan summarised planned (All-from_recursion IsVersioned (functions_of p merged plan) fits)

@@ -1,6 +1,6 @@
 -- When a run of versions stands as the source does: the same outcome, arrays, input and output, and the same frames, but that a frame of a
 -- version stands for one of its function.
-use Rattle.std.specs.Prelude.{◌≡◌, ℕ, List, map, length, slice_get}
+use Rattle.std.specs.Prelude.{◌≡◌, ℕ, map, length, slice_get}
 use Rattle.std.specs.Option.{option_map_or}
 use Rattle.gimple_ir.specs.declared.types.Program.{Program}
 use Rattle.gimple_ir.specs.declared.plan.Plan.{Plan}

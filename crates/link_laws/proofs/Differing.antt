@@ -1,12 +1,14 @@
--- The symbols of the direct image of a module are all different: they are the names of the image of its parts.
+-- The symbols of the direct image of a plan are all different: they are the names of the image of its parts.
 use Rattle.std.proofs.Common.{◌≡◌, ◌+◌, ℕ, List, [], ◌∷◌, ◌++◌, map, false, refl, sym, ap, ap₂, ◌∙◌}
 use Rattle.std.proofs.lemmas.List.{map-append}
 use Rattle.gimple_ir.specs.Names.{repeats}
-use Rattle.gimple_ir.specs.Programs.{IsChecked}
-use Rattle.gimple_ir.specs.declared.types.Module.{Module}
+use Rattle.gimple_ir.specs.declared.types.Program.{Program}
 use Rattle.gimple_ir.specs.declared.merged.Merged.{Merged}
+use Rattle.gimple_ir.specs.declared.plan.Plan.{Plan}
 use Rattle.gimple_ir.specs.declared.plan.Version.{Version}
 use Rattle.gimple_ir.specs.declared.versioned.VersionedFunction.{VersionedFunction}
+use Rattle.func_summary.specs.Summarised.{IsSummarised}
+use Rattle.ipa_plan.specs.Laws.{IsPlanned}
 use Rattle.final_link.specs.Image.{round_up}
 use Rattle.final_link.specs.Stubs.{functions_address}
 use Rattle.final_link.specs.Members.{version_size}
@@ -14,7 +16,7 @@ use Rattle.final_link.specs.declared.members.Member.{Member}
 use Rattle.final_link.specs.Arrays.{size_of, array_symbol}
 use Rattle.final_link.specs.Symbols.{end_of, places_of, stub_symbols, array_symbols, arrays_in_order, symbols_of}
 use Rattle.follow_laws.specs.Direct.{code_size, direct_symbols}
-use Rattle.program_link.specs.Lowering.{merged_of, plan_of, functions_of}
+use Rattle.program_link.specs.Versions.{functions_of}
 use Rattle.program_link.proofs.PlanLaws.{same_symbols}
 use Rattle.program_link.proofs.PlaceLaws.{all_differ}
 
@@ -45,11 +47,11 @@ unfolding symbols_of
 placed_names members versions merged kept =
     names_from (λ (v : Version). v.symbol) (version_size members) functions_address (end_of (version_size members) functions_address versions) versions merged kept
 
-pub symbols_differ : (m : Module) (main : ℕ) → IsChecked m → repeats (map (λ e. e.0) (direct_symbols (functions_of m) (merged_of m main) (plan_of m).arrays)) ≡ false
-symbols_differ m main checked =
-    let merged = merged_of m main in
-    let kept = (plan_of m).arrays in
+pub symbols_differ : (p : Program) (merged : Merged) (plan : Plan) → IsSummarised p merged → IsPlanned merged plan
+    → repeats (map (λ e. e.0) (direct_symbols (functions_of p merged plan) merged plan.arrays)) ≡ false
+symbols_differ p merged plan s planned =
+    let fs = functions_of p merged plan in
     ap repeats
-    (direct_names (functions_of m) merged kept ∙ ap (λ (names : List (List ℕ)). stub_names ++ (names ++ array_names merged kept)) (sym (same_symbols m))
-    ∙ sym (placed_names [] (plan_of m).versions merged kept))
-    ∙ all_differ m main [] checked
+    (direct_names fs merged plan.arrays ∙ ap (λ (names : List (List ℕ)). stub_names ++ (names ++ array_names merged plan.arrays)) (sym (same_symbols p merged plan))
+    ∙ sym (placed_names [] plan.versions merged plan.arrays))
+    ∙ all_differ p merged plan [] s planned

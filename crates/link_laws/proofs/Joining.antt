@@ -1,49 +1,43 @@
--- The laws of linking, of what is known of the image, the machine and the lowering.
-use Rattle.std.proofs.Common.{◌≡◌, ℕ, List, None, subst}
-use Rattle.gimple_ir.specs.declared.types.Module.{Module}
-use Rattle.gimple_ir.specs.Programs.{IsChecked}
+-- The laws of linking, of what is known of the image, the machine, the plan and the lowering.
+use Rattle.std.proofs.Common.{◌≡◌, ℕ, List, None, subst, sym}
+use Rattle.gimple_ir.specs.declared.types.Program.{Program}
+use Rattle.gimple_ir.specs.declared.merged.Merged.{Merged}
+use Rattle.gimple_ir.specs.declared.plan.Plan.{Plan}
+use Rattle.func_summary.specs.Summarised.{IsSummarised}
+use Rattle.ipa_plan.specs.Plans.{IsPlanOf}
+use Rattle.ipa_plan.specs.Laws.{PlanLaw, SummarisedLaw}
 use Rattle.rv64_meaning.specs.Loading.{segments_of, start_of, load_fault_of}
 use Rattle.follow_laws.specs.Direct.{direct_image}
 use Rattle.follow_laws.specs.Follows.{Follows}
-use Rattle.program_link.specs.Lowering.{plan_of, merged_of, functions_of}
+use Rattle.program_link.specs.Versions.{functions_of}
+use Rattle.program_link.specs.Linking.{limits_of, first_passed}
 use Rattle.program_link.proofs.PlanLaws.{limits_kept}
 use Rattle.machine_laws.specs.Starts.{MachineFollows}
-use Rattle.lowering_laws.specs.Whole.{IsWhole}
-use Rattle.lowering_laws.specs.Programs.{program_of}
-use Rattle.lowering_laws.specs.Linked.{result_type_of, linked_of}
+use Rattle.lowering_laws.specs.Linked.{result_type_of, linked}
 use Rattle.lowering_laws.specs.Laws.{FollowsLaw, TypedLaw}
-use Rattle.image_laws.specs.Direct.{IsDirect, DirectLoads, DirectIsPlaced}
+use Rattle.image_laws.specs.Direct.{IsDirect, layout_of, DirectLoads, DirectIsPlaced}
 use Rattle.image_laws.specs.Start.{StartIsAtStart}
 use Rattle.link_laws.specs.Laws.{LinkedLoads, LinkedFollows}
-use Rattle.link_laws.proofs.Linked.{Linked, linked}
 use Rattle.link_laws.proofs.Directly.{is_direct}
-use Rattle.link_laws.proofs.Placing.{layout_in, placed, at_start}
 
-whole_of : (m : Module) (image : List ℕ) → IsChecked m → (k : Linked m image) → IsWhole m k.main
-whole_of m image checked k = record { checked = checked; closed = k.closed; begins = k.begins }
+module _ (plan_law : PlanLaw) (summarised : SummarisedLaw) where
+  direct_of : (p : Program) (merged : Merged) (plan : Plan) → IsSummarised p merged → IsPlanOf merged plan → first_passed (limits_of merged) ≡ None → IsDirect plan merged (functions_of p merged plan)
+  direct_of p merged plan s is within =
+      is_direct p merged plan s (plan_law merged plan (summarised p merged s) is) (limits_kept merged within)
 
-direct_of : (m : Module) (image : List ℕ) → IsChecked m → (k : Linked m image) → IsDirect (plan_of m) (merged_of m k.main) (functions_of m)
-direct_of m image checked k = is_direct m k.main (whole_of m image checked k) (limits_kept m k.within)
+  pub linked_loads : DirectLoads → LinkedLoads
+  linked_loads loads p merged image s within k =
+      subst (λ (x : List ℕ). load_fault_of x ≡ None) (sym k.is) (loads k.plan merged (functions_of p merged k.plan) (direct_of p merged k.plan s k.planned within))
 
-pub linked_loads : DirectLoads → LinkedLoads
-linked_loads loads m image checked e =
-    let k = linked m image e in
-    subst (λ (x : List ℕ). load_fault_of x ≡ None) k.image_is (loads (plan_of m) (merged_of m k.main) (functions_of m) (direct_of m image checked k))
-
-pub linked_follows : DirectIsPlaced → StartIsAtStart → MachineFollows → TypedLaw → FollowsLaw → LinkedFollows
-linked_follows is_placed starts machine typed follows m image checked e =
-    let k = linked m image e in
-    let whole = whole_of m image checked k in
-    let direct = direct_of m image checked k in
-    let plan = plan_of m in
-    let merged = merged_of m k.main in
-    let made = direct_image plan merged (functions_of m) in
-    let t = segments_of made in
-    let results = result_type_of m in
-    subst (λ (x : List ℕ). Follows x (program_of m)) k.image_is
-    (follows m k.main whole made
-    (λ input bytes.
-    machine t (layout_in m k.main) (linked_of m k.main)
-    (placed m k.main whole t (is_placed plan merged (functions_of m) results direct))
-    (typed m k.main whole) input (start_of made input)
-    (at_start m k.main whole t input (start_of made input) (starts plan merged (functions_of m) results input direct bytes))))
+  pub linked_follows : DirectIsPlaced → StartIsAtStart → MachineFollows → TypedLaw → FollowsLaw → LinkedFollows
+  linked_follows is_placed starts machine typed follows p merged image s within k =
+      let plan = k.plan in
+      let fs = functions_of p merged plan in
+      let direct = direct_of p merged plan s k.planned within in
+      let made = direct_image plan merged fs in
+      let results = result_type_of p plan in
+      subst (λ (x : List ℕ). Follows x p) (sym k.is)
+      (follows p merged plan s k.planned made
+      (λ input bytes.
+      machine (segments_of made) (layout_of plan merged fs) (linked p merged plan) (is_placed plan merged fs results direct) (typed p merged plan s k.planned) input (start_of made input)
+      (starts plan merged fs results input direct bytes)))

@@ -1,19 +1,21 @@
-//! That the image of a module which is a whole program follows it.
+//! That the image of a whole program follows it.
 //!
-//! In specs/, `Laws` has the two laws: the image can be loaded, and it does on every input what the module's program does.
+//! In specs/, `Laws` has the two laws: the image can be loaded, and it does on every input what the program does.
 #![tactic(auto)]
 
 ghost use Rattle.link_laws.specs.Laws.{LinkedLoads, LinkedFollows};
 
 use image_laws::{direct_images, starts};
+use ipa_plan::planned;
 use lowering_laws::{lock_step, typed_versions};
 use machine_laws::machine_follows;
 
-/// The image of each checked module that has one can be loaded, and does on every input what the module's program does.
+/// The image of each whole program that passes no limit can be loaded, and does on every input what the program does.
 pub fn linked_image_follows()
     ensures loads { LinkedLoads }
     ensures follows { LinkedFollows }
 {
+    planned();
     direct_images();
     starts();
     machine_follows();

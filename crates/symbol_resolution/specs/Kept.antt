@@ -8,7 +8,7 @@ use Rattle.gimple_ir.specs.declared.types.Function.{Function}
 use Rattle.gimple_ir.specs.declared.types.Module.{Module}
 use Rattle.lto_object.specs.Objects.{ObjectData}
 use Rattle.resolution_text.specs.declared.resolution.Word.{Word}
-use Rattle.resolution_text.specs.declared.resolution.Word.TheVariants.{Unknown, Undef, PrevailingDef, PrevailingDefIronly, PrevailingDefIronlyExp, PreemptedReg, PreemptedIr, ResolvedIr, ResolvedExec, ResolvedDyn}
+use Rattle.resolution_text.specs.declared.resolution.Word.TheVariants.{PrevailingDef, PrevailingDefIronlyExp}
 use Rattle.symbol_resolution.specs.declared.marks.Mark.{Mark}
 use Rattle.symbol_resolution.specs.Marks.{prevailing_mark}
 use Rattle.symbol_resolution.specs.NameFaults.{is_at}

@@ -4,7 +4,7 @@ use Rattle.std.specs.List.{filter, list_any, range_with_len}
 use Rattle.gimple_ir.specs.declared.types.Function.{Function}
 use Rattle.gimple_ir.specs.declared.types.Module.{Module}
 use Rattle.gimple_ir.specs.declared.types.Statement.{Statement}
-use Rattle.gimple_ir.specs.declared.types.Statement.TheVariants.{Nop, Label, Goto, Cond, Switch, ReturnVoid, Return, Copy, Unary, Convert, Binary, Load, Store, CopyStruct, Call, Putchar, Getchar, Exit}
+use Rattle.gimple_ir.specs.declared.types.Statement.TheVariants.{Load, Store, Call}
 use Rattle.gimple_ir.specs.declared.summary.Edge.{Edge}
 use Rattle.gimple_ir.specs.declared.summary.Summary.{Summary}
 use Rattle.symbol_resolution.specs.declared.numbers.Numbered.{Numbered}

@@ -1,9 +1,8 @@
 -- What is wrong with the symbols of a name: two prevail, none does, or their types do not match. And what is wrong with `main`.
-use Rattle.std.specs.Prelude.{ℕ, List, [], ◌∷◌, map, take, count_by, Option, Some, None, Bool, true, false, ◌&&◌, not, nat_lt, nat_eq, slice_get, codes, if◌then◌else◌}
+use Rattle.std.specs.Prelude.{ℕ, List, [], ◌∷◌, take, count_by, Option, Some, None, Bool, true, false, ◌&&◌, not, nat_lt, nat_eq, slice_get, codes, if◌then◌else◌}
 use Rattle.std.specs.List.{list_any, find}
 use Rattle.std.specs.Option.{option_or, option_map_or, option_and_then}
 use Rattle.std.specs.Cmp.Lexicographic.{pointwise}
-use Rattle.gimple_ir.specs.declared.types.ScalarType.{ScalarType}
 use Rattle.gimple_ir.specs.declared.types.ScalarType.TheVariants.{Int}
 use Rattle.gimple_ir.specs.declared.types.ElementType.{ElementType}
 use Rattle.gimple_ir.specs.declared.types.ElementType.TheVariants as element

@@ -82,11 +82,7 @@ fn check_file(
     if let Some(kind) = fault_of_header(name, object, file) {
         return Err(ResolutionError::AtLine { kind, line });
     }
-    check_words(
-        line + 1,
-        object.symbols().as_slice(),
-        file.words.as_slice(),
-    )
+    check_words(line + 1, object.symbols().as_slice(), file.words.as_slice())
 }
 
 fn check_files(
@@ -101,11 +97,12 @@ fn check_files(
 {
     let mut line = 2u32;
     for (place, object) in objects.iter().enumerate() {
+        let symbols = object.symbols().as_slice();
         let file = &files[place];
         if let Err(error) = check_file(line, &names[place], object, file) {
             return Err(error);
         }
-        line += 1 + object.symbols().len() as u32;
+        line += 1 + symbols.len() as u32;
     }
     Ok(())
 }

@@ -6,7 +6,9 @@ ghost use Rattle.symbol_resolution.specs.Linking.{linked_edge, linked_arrays, li
 
 use crate::groups::NameGroups;
 use crate::numbers::{Numbered, array_number, function_number};
-use gimple_ir::{Array, Edge, Function, List, Module, Name, NoMemory, Statement, Summary, Variable};
+use gimple_ir::{
+    Array, Edge, Function, List, Module, Name, NoMemory, Statement, Summary, Variable,
+};
 use std::alloc::Global;
 
 // ---- summaries
@@ -198,9 +200,7 @@ fn linked_body(
 {
     let mut linked: List<Statement> = List::new(alloc);
     for statement in body {
-        linked.push(linked_statement(
-            functions, arrays, object, source, statement,
-        )?)?;
+        linked.push(linked_statement(functions, arrays, object, source, statement)?)?;
     }
     Ok(linked)
 }

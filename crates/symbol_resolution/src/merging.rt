@@ -4,12 +4,12 @@ ghost use Rattle.gimple_ir.specs.Checks.{is_extern};
 ghost use Rattle.func_summary.specs.Summarised.{parameter_types_of};
 ghost use Rattle.resolution_text.specs.Answers.{Answers};
 ghost use Rattle.symbol_resolution.specs.Kept.{kept_function, kept_array, kept_functions_in, kept_functions, kept_arrays_in, kept_arrays};
-ghost use Rattle.symbol_resolution.specs.Merging.{merged_function, merged_array, merged_by, merged_of, AreFew};
+ghost use Rattle.symbol_resolution.specs.Merging.{merged_function, merged_array, merged_by, merged_of, IsMergedOf, AreFew};
 
 use crate::groups::NameGroups;
 use crate::kept::{arrays as kept_arrays, functions as kept_functions, kept_as};
-use crate::linking::{array_copy, linked_summary};
 use crate::lines::check_lines;
+use crate::linking::{array_copy, linked_summary};
 use crate::marks::{Mark, marks_of};
 use crate::names::{check_main, check_names};
 use crate::numbers::{Numbered, main_number};
@@ -171,10 +171,28 @@ fn merged(
     })
 }
 
+#[tactic(auto, unfolding(crate::specs::Merging::merged_of))]
+fn merged_under(
+    alloc: Global,
+    objects: &[Object<'_>],
+    names: &[Name],
+    resolution: &Resolution,
+) -> Result<Merged, ResolutionError>
+    requires names { length names.now ≡ length objects.now }
+    requires few { AreFew objects.now }
+    ensures { Answers result (merged_of objects.now names.now resolution.now) }
+{
+    check_lines(objects, names, resolution)?;
+    let files = resolution.files.as_slice();
+    let marks = marks_of(alloc, objects, files)?;
+    check_names(objects, &marks, files)?;
+    check_main(alloc, objects, &marks)?;
+    Ok(merged(alloc, &marks, objects)?)
+}
+
 /// The merged program of objects under a resolution, whose files have these names. A fault is the first: of the resolution's lines in
 /// order, `FileCount`, `FileName`, `SymbolCount`, `SymbolName`, `NativeWord` or `WordKind`; then of the names in the order of their
 /// first symbols, `TwoPrevailing`, `NoPrevailing` or `TypeMismatch`; last `NoMain`.
-#[tactic(auto, unfolding(crate::specs::Merging::merged_of))]
 pub fn merge(
     alloc: Global,
     objects: &[Object<'_>],
@@ -184,11 +202,9 @@ pub fn merge(
     requires names { length names.now ≡ length objects.now }
     requires few { AreFew objects.now }
     ensures exact { Answers result (merged_of objects.now names.now resolution.now) }
+
+    // What is answered is a merged program of these objects.
+    ensures made { IfOk result (λ merged. IsMergedOf objects.now merged) }
 {
-    check_lines(objects, names, resolution)?;
-    let files = resolution.files.as_slice();
-    let marks = marks_of(alloc, objects, files)?;
-    check_names(objects, &marks, files)?;
-    check_main(alloc, objects, &marks)?;
-    Ok(merged(alloc, &marks, objects)?)
+    merged_under(alloc, objects, names, resolution)
 }

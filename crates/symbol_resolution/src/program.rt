@@ -1,16 +1,18 @@
 //! The whole program that a merged program stands for.
-ghost use Rattle.std.specs.Prelude.{◌≡◌, ◌++◌, ◌<◌, ◌^◌, IfOk, OnOk, length, map};
+ghost use Rattle.std.specs.Prelude.{◌≡◌, ◌<◌, ◌^◌, IfOk, length, map, slice_get};
 ghost use Rattle.std.specs.List.{filter_map};
-ghost use Rattle.std.specs.Option.{option_copied};
-ghost use Rattle.symbol_resolution.specs.Groups.{named};
+ghost use Rattle.std.specs.Option.{option_map};
 ghost use Rattle.symbol_resolution.specs.Numbers.{is_local_function, merged_function_numbers, merged_array_numbers};
+ghost use Rattle.symbol_resolution.specs.Linking.{linked_function};
 ghost use Rattle.symbol_resolution.specs.Merging.{program_function, program_functions, program_of, IsMergedOf, AreFew};
 
 use crate::groups::NameGroups;
 use crate::linking::{array_copy, linked_function};
 use crate::names::function;
 use crate::numbers::{Numbered, is_static, with_number};
-use gimple_ir::{Array, Function, List, Merged, MergedArray, MergedFunction, NoMemory, Program};
+use gimple_ir::{
+    Array, Function, List, Merged, MergedArray, MergedFunction, Module, NoMemory, Program,
+};
 use lto_object::Object;
 use std::alloc::Global;
 
@@ -74,6 +76,26 @@ fn program_arrays(alloc: Global, arrays: &[MergedArray]) -> Result<List<Array>, 
     Ok(items)
 }
 
+// An object's function of this place.
+fn function_in(
+    alloc: Global,
+    functions: &NameGroups<'_, Numbered>,
+    arrays: &NameGroups<'_, Numbered>,
+    object: usize,
+    source: &Module,
+    place: u32,
+) -> Result<Option<Function>, NoMemory>
+    ensures { IfOk result (λ found. found ≡ option_map (linked_function functions.now arrays.now object source.now) (slice_get source.now.functions place)) }
+{
+    match source.functions.as_slice().get(place as usize) {
+        None => Ok(None),
+        Some(function) => {
+            let linked = linked_function(alloc, functions, arrays, object, source, function)?;
+            Ok(Some(linked))
+        }
+    }
+}
+
 /// The function that a merged one stands for.
 fn program_function(
     alloc: Global,
@@ -87,16 +109,34 @@ fn program_function(
     let object = merged.object as usize;
     match objects.get(object) {
         None => Ok(None),
-        Some(item) => {
-            let source = item.module();
-            match source.functions.as_slice().get(merged.place as usize) {
-                None => Ok(None),
-                Some(function) => Ok(Some(linked_function(
-                    alloc, functions, arrays, object, source, function,
-                )?)),
-            }
+        Some(item) => function_in(
+            alloc,
+            functions,
+            arrays,
+            object,
+            item.module(),
+            merged.place,
+        ),
+    }
+}
+
+fn linked_functions(
+    alloc: Global,
+    objects: &[Object<'_>],
+    numbers: &NameGroups<'_, Numbered>,
+    arrays: &NameGroups<'_, Numbered>,
+    merged: &[MergedFunction],
+) -> Result<List<Function>, NoMemory>
+    ensures { IfOk result (λ functions. functions ≡ filter_map (program_function objects.now numbers.now arrays.now) merged.now) }
+{
+    let mut functions: List<Function> = List::new(alloc);
+    for function in merged {
+        match program_function(alloc, objects, numbers, arrays, function)? {
+            None => {}
+            Some(function) => functions.push(function)?,
         }
     }
+    Ok(functions)
 }
 
 fn program_functions(
@@ -108,16 +148,10 @@ fn program_functions(
     requires arrays { length merged.now.arrays < 2 ^ 32 }
     ensures { IfOk result (λ functions. functions ≡ program_functions objects.now merged.now) }
 {
-    let numbers = function_numbers(alloc, objects, merged.functions.as_slice())?;
+    let functions = merged.functions.as_slice();
+    let numbers = function_numbers(alloc, objects, functions)?;
     let arrays = array_numbers(alloc, merged.arrays.as_slice())?;
-    let mut functions: List<Function> = List::new(alloc);
-    for function in merged.functions.as_slice() {
-        match program_function(alloc, objects, &numbers, &arrays, function)? {
-            None => {}
-            Some(function) => functions.push(function)?,
-        }
-    }
-    Ok(functions)
+    linked_functions(alloc, objects, &numbers, &arrays, functions)
 }
 
 /// The whole program that a merged program of these objects stands for: its functions and arrays in their order, with their numbers.

@@ -1,2 +1,9 @@
 pub mod Faults
 pub mod Tables
+pub mod Named
+pub mod LineLaws
+pub mod MarkLaws
+pub mod KeptLaws
+pub mod SymbolLaws
+pub mod ArrayLaws
+pub mod MergedLaws

@@ -6,15 +6,25 @@
 #![tactic(auto)]
 
 mod definitions;
+mod groups;
+mod kept;
+mod lines;
+mod linking;
+mod marks;
+mod merging;
+mod names;
+mod numbers;
+mod program;
 mod resolving;
 mod table;
+mod types;
 
 pub use definitions::SymbolPlace;
+pub use merging::merge;
+pub use program::program_of;
 pub use resolution_text::{
     Resolution, ResolutionError, ResolutionKind, Resolved, ResolvedFile, Word, print_resolution,
     read_resolution,
 };
 pub use resolving::resolve;
 
-#[cfg(test)]
-mod tests;

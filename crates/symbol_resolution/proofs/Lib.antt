@@ -1,2 +1,13 @@
 pub mod Faults
 pub mod Tables
+pub mod Membership
+pub mod Renumbering
+pub mod StatementKinds
+pub mod CheckedItems
+pub mod ListedSymbols
+pub mod MarkFacts
+pub mod KeptPlaces
+pub mod Prevailing
+pub mod Standing
+pub mod LinkedFunctions
+pub mod MergedLaws

@@ -8,6 +8,7 @@
 mod definitions;
 mod groups;
 mod kept;
+mod laws;
 mod lines;
 mod linking;
 mod marks;
@@ -20,6 +21,7 @@ mod table;
 mod types;
 
 pub use definitions::SymbolPlace;
+pub use laws::merged_programs;
 pub use merging::merge;
 pub use program::program_of;
 pub use resolution_text::{
@@ -27,4 +29,3 @@ pub use resolution_text::{
     read_resolution,
 };
 pub use resolving::resolve;
-

@@ -6,4 +6,15 @@ pub mod MarkLaws
 pub mod KeptLaws
 pub mod SymbolLaws
 pub mod ArrayLaws
+pub mod Membership
+pub mod Renumbering
+pub mod StatementKinds
+pub mod CheckedItems
+pub mod ListedSymbols
+pub mod MarkFacts
+pub mod KeptPlaces
+pub mod Prevailing
+pub mod Standing
+pub mod LinkedFunctions
 pub mod MergedLaws
+pub mod ProgramLaws

@@ -10,3 +10,4 @@ pub mod Kept
 pub mod Numbers
 pub mod Linking
 pub mod Merging
+pub mod Laws

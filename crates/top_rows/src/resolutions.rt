@@ -58,7 +58,8 @@ fn object_files(alloc: Global, fail: &[u64]) -> Result<MemoryFiles, Fail> {
     Ok(MemoryFiles::new(held, Vec::from_slice(alloc, fail)?))
 }
 
-const FIRST: &str = "2\na.o 2\n0 1 RESOLVED_IR f\n1 1 PREVAILING_DEF main\nb.o 1\n0 2 PREVAILING_DEF_IRONLY f\n";
+const FIRST: &str =
+    "2\na.o 2\n0 1 RESOLVED_IR f\n1 1 PREVAILING_DEF main\nb.o 1\n0 2 PREVAILING_DEF_IRONLY f\n";
 
 const TWO_WEAK: &str = "2\nv.o 1\n0 1 PREVAILING_DEF_IRONLY f\nw.o 1\n0 2 PREEMPTED_IR f\n";
 
@@ -141,11 +142,7 @@ fn not_built(rt: HostRuntime) -> Result<(), Fail> {
         let words = words_of(alloc, line)?;
         let mut files = object_files(alloc, &[])?;
         let mut out = MemorySink::new(Vec::new(alloc));
-        assert_eq!(rt;
-            plain(alloc, &words, &mut files, &mut out),
-            2,
-            "{line}"
-        );
+        assert_eq!(rt; plain(alloc, &words, &mut files, &mut out), 2, "{line}");
         assert_eq!(rt; out.taken(), b"2 words\n".as_slice(), "{line}");
     }
     Ok(())

@@ -11,14 +11,13 @@ use Rattle.lto_object.specs.ObjectReading.{read_of as read_object_of}
 use Rattle.whopr_words.specs.Commands.{Spoken, Cc, Lgen, Show, Run, Resolve}
 use Rattle.rv64_meaning.specs.Laws.{output_of}
 use Rattle.rv64_meaning.specs.Loading.{load_fault_of, run_of}
-use Rattle.plain_link.specs.declared.fault.LimitFault.{LimitFault}
 use Rattle.plain_link.specs.declared.fault.LinkFault.{LinkFault}
 use Rattle.plain_link.specs.declared.fault.LinkFault.TheVariants.{Unbuilt, Limit}
 use Rattle.plain_link.specs.Linking.{link_of}
 use Rattle.gimple_ir.specs.Programs.{IsChecked}
 use Rattle.link_laws.specs.Laws.{LinkedLoads, LinkedFollows}
 use Rattle.whopr_top.specs.Reads.{reads_of, AreHeld, IsOverLimit}
-use Rattle.whopr_top.specs.Lines.{line, text_line, object_line, outcome_line, limit_line}
+use Rattle.whopr_top.specs.Lines.{line, text_line, object_line, outcome_line}
 use Rattle.whopr_top.specs.Judgements.{File, Judgement, Refuses, Gives, Judges, image_by, cc_by, lgen_by, show_by, run_by, objects_from, resolve_by}
 use Rattle.whopr_top.specs.Outputs.{IsJudged, IsRefused, IsDone, IsCutShort, WritesAll, CutsShort, Faithful, IsFaithful, Refused, IsTooLarge, IsValid}
 use Rattle.whopr_top.specs.Answers.{Exactly, IsLimitLine, file_bytes_line, is_status, is_early}

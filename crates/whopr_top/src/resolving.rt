@@ -98,16 +98,10 @@ fn resolution_of(
     let resolution = match symbol_resolution::resolve(alloc, &objects, names) {
         Ok(resolution) => resolution,
         Err(ResolutionError::AtLine { kind, line }) => {
-            return Err(ResolveFault::Resolution(
-                kind,
-                ResolutionPlace::AtLine(line),
-            ));
+            return Err(ResolveFault::Resolution(kind, ResolutionPlace::AtLine(line)));
         }
         Err(ResolutionError::AtName { kind, name }) => {
-            return Err(ResolveFault::Resolution(
-                kind,
-                ResolutionPlace::AtName(name),
-            ));
+            return Err(ResolveFault::Resolution(kind, ResolutionPlace::AtName(name)));
         }
         Err(ResolutionError::NoMemory) => return Err(ResolveFault::NoMemory),
     };

@@ -11,10 +11,11 @@ pub returns-in-Err-Failed-clause-refused : goal.returns-in-Err-Failed-clause-ref
 returns-in-Err-Failed-clause-refused g c =
     let ws = c.args.names.now in
     let i = c.loop-name.name-index in
-    let w = c.name-item.result in
-    (omega (arith, c.in-Err-Failed.ensures.failed (ap Err c.in-Err-Failed.field-0-is), c.loop-name.invariant.never_falls),
-    told_reached _ _ (words_of (take i ws)) (contents_of c.loop-name.contents.items) (string_bytes w) _ (words_of (drop (suc i) ws)) (words_of ws) c.as_str-in-Err-Failed.ensures.value
-    (words_split ws i w c.loop-name-test.true c.name-item.is) c.loop-name.invariant.held)
+    let w = c.name-item.result in (
+      omega (arith, c.in-Err-Failed.ensures.failed (ap Err c.in-Err-Failed.field-0-is), c.loop-name.invariant.never_falls),
+      told_reached _ _ (words_of (take i ws)) (contents_of c.loop-name.contents.items) (string_bytes w) _ (words_of (drop (suc i) ws)) (words_of ws) c.as_str-in-Err-Failed.ensures.value
+          (words_split ws i w c.loop-name-test.true c.name-item.is) c.loop-name.invariant.held,
+    )
 
 pub returns-in-Err-TooLong-clause-refused : goal.returns-in-Err-TooLong-clause-refused
 returns-in-Err-TooLong-clause-refused g c =

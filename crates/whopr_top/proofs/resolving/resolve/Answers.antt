@@ -1,4 +1,4 @@
-use Rattle.std.proofs.Common.{Err, ap, refl, arith, [], ◌∷◌}
+use Rattle.std.proofs.Common.{Err, ap, refl, arith, []}
 use Rattle.whopr_words.specs.Commands.{words_of}
 use Rattle.whopr_top.specs.Reads.{contents_of}
 use Rattle.whopr_top.specs.Judgements.{objects_from}

@@ -1,28 +1,28 @@
 -- What a command came to: one lemma where it is refused, where its files are written, and where a write is cut short.
 use Rattle.std.proofs.Common.{◌≡◌, ◌≢◌, ℕ, List, [], ◌∷◌, ◌⊎◌, Option, Some, None, Result, Ok, Err, refl, sym, ◌∙◌, ap, inl, inr, arith, ◌≤◌, length, subst}
-use Rattle.std.specs.Prelude.{IfSome, ◌++◌, codes, decimal}
+use Rattle.std.specs.Prelude.{IfSome, IsTrue, ◌++◌, codes, decimal}
 use Rattle.outer_files.specs.Outside.{Contents, WhereTold, Writes, WritesPrefix, Rose, IsLonger}
 use Rattle.gimple_ir.specs.declared.types.Module.{Module}
 use Rattle.gimple_syntax.specs.declared.text.TextFault.{TextFault}
 use Rattle.gimple_syntax.specs.Reading.{read_of}
 use Rattle.lto_object.specs.declared.fault.ObjectFault.{ObjectFault}
-use Rattle.lto_object.specs.Objects.{object_of}
+use Rattle.lto_object.specs.Objects.{object_of, ObjectData}
 use Rattle.lto_object.specs.ObjectReading.{read_of as read_object_of}
-use Rattle.whopr_words.specs.Commands.{Spoken, Cc, Lgen, Show, Run}
+use Rattle.whopr_words.specs.Commands.{Spoken, Cc, Lgen, Show, Run, Resolve}
 use Rattle.rv64_meaning.specs.Laws.{output_of}
 use Rattle.rv64_meaning.specs.Loading.{load_fault_of, run_of}
-use Rattle.plain_link.specs.declared.fault.LimitFault.{LimitFault}
 use Rattle.plain_link.specs.declared.fault.LinkFault.{LinkFault}
 use Rattle.plain_link.specs.declared.fault.LinkFault.TheVariants.{Unbuilt, Limit}
 use Rattle.plain_link.specs.Linking.{link_of}
 use Rattle.gimple_ir.specs.Programs.{IsChecked}
 use Rattle.link_laws.specs.Laws.{LinkedLoads, LinkedFollows}
 use Rattle.whopr_top.specs.Reads.{reads_of, AreHeld, IsOverLimit}
-use Rattle.whopr_top.specs.Lines.{line, text_line, object_line, outcome_line, limit_line}
-use Rattle.whopr_top.specs.Judgements.{File, Judgement, Refuses, Gives, Judges, image_by, cc_by, lgen_by, show_by, run_by}
+use Rattle.whopr_top.specs.Lines.{line, text_line, object_line, outcome_line}
+use Rattle.whopr_top.specs.Judgements.{File, Judgement, Refuses, Gives, Judges, image_by, cc_by, lgen_by, show_by, run_by, objects_from, resolve_by}
 use Rattle.whopr_top.specs.Outputs.{IsJudged, IsRefused, IsDone, IsCutShort, WritesAll, CutsShort, Faithful, IsFaithful, Refused, IsTooLarge, IsValid}
-use Rattle.whopr_top.specs.Answers.{Exactly, IsLimitLine}
-use Rattle.whopr_top.specs.Attempts.{Judged}
+use Rattle.whopr_top.specs.Answers.{Exactly, IsLimitLine, file_bytes_line, is_status, is_early}
+use Rattle.whopr_top.specs.Attempts.{Attempt, Judged}
+use Rattle.whopr_top.proofs.ReadingFiles.{over_not_absent, held_not_absent}
 
 -- a store holds one list of contents
 same_contents : (limit : ℕ) (held : Contents) (names : List (List ℕ)) (cs ds : List (List ℕ)) → AreHeld limit held names cs → AreHeld limit held names ds → cs ≡ ds
@@ -53,6 +53,7 @@ alike (Cc input output) (text ∷ []) a b h k = alike_to a b (cc_by output (read
 alike (Lgen input output) (text ∷ []) a b h k = alike_to a b (lgen_by output (read_of text)) h k
 alike (Show object) (bytes ∷ []) a b h k = alike_to a b (show_by (read_object_of bytes)) h k
 alike (Run image steps input output) (bytes ∷ given ∷ []) a b h k = alike_to a b (run_by output (load_fault_of bytes) (run_of bytes given steps)) h k
+alike (Resolve output objects) contents a b h k = alike_to a b (resolve_by output objects (objects_from 0 contents)) h k
 alike command contents a b h k = absurd h
 
 -- the same of what is held
@@ -213,6 +214,7 @@ refused limit command old new before now s x cs not_0 not_6 read judged =
     record {
       object = λ held told _. exactly_refused limit held command cs s 3 x (at held told) judged;
       large = λ held told _. exactly_limited limit held command cs s x (at held told) judged;
+      resolution = λ held told _. exactly_refused limit held command cs s 8 x (at held told) judged;
       spelled = λ held told _. exactly_refused limit held command cs s 9 x (at held told) judged;
       image = λ held told _. exactly_refused limit held command cs s 11 x (at held told) judged;
       unbuilt = λ held told _. exactly_refused limit held command cs s 13 x (at held told) judged;
@@ -236,6 +238,7 @@ done limit command old between new before now w x cs same read judged writes fol
     record {
       object = λ held told _. exactly_other limit held command cs 0 3 w x (λ is. grind (arith, is)) (at held told) judged;
       large = λ held told _. exactly_within limit held command cs 0 w x (λ is. grind (arith, is)) (at held told) judged;
+      resolution = λ held told _. exactly_other limit held command cs 0 8 w x (λ is. grind (arith, is)) (at held told) judged;
       spelled = λ held told _. exactly_other limit held command cs 0 9 w x (λ is. grind (arith, is)) (at held told) judged;
       image = λ held told _. exactly_other limit held command cs 0 11 w x (λ is. grind (arith, is)) (at held told) judged;
       unbuilt = λ held told _. exactly_other limit held command cs 0 13 w x (λ is. grind (arith, is)) (at held told) judged;
@@ -258,6 +261,7 @@ cut_short limit command old between new before now w x y cs same read judged wri
     record {
       object = λ held told _. exactly_other limit held command cs 6 3 w x (λ is. grind (arith, is)) (at held told) judged;
       large = λ held told _. exactly_within limit held command cs 6 w x (λ is. grind (arith, is)) (at held told) judged;
+      resolution = λ held told _. exactly_other limit held command cs 6 8 w x (λ is. grind (arith, is)) (at held told) judged;
       spelled = λ held told _. exactly_other limit held command cs 6 9 w x (λ is. grind (arith, is)) (at held told) judged;
       image = λ held told _. exactly_other limit held command cs 6 11 w x (λ is. grind (arith, is)) (at held told) judged;
       unbuilt = λ held told _. exactly_other limit held command cs 6 13 w x (λ is. grind (arith, is)) (at held told) judged;
@@ -308,3 +312,91 @@ run_faults output bytes given steps offset is = rw is refl
 pub run_gives : (output bytes given written text : List ℕ) (steps : ℕ) → load_fault_of bytes ≡ None → written ≡ output_of (run_of bytes given steps)
     → text ≡ outcome_line (run_of bytes given steps) → Gives ((output, written) ∷ []) text ≡ run_by output (load_fault_of bytes) (run_of bytes given steps)
 run_gives output bytes given written text steps none is says = rw (none, is, says) refl
+
+-- ---- the judgement of `resolve`
+
+pub resolve_gives : (output : List ℕ) (names : List (List ℕ)) (found : Result (List ObjectData) (ℕ × ObjectFault)) (text printed : List ℕ)
+    → Gives ((output, text) ∷ []) [] ≡ resolve_by output names found → printed ≡ [] → Gives ((output, text) ∷ []) printed ≡ resolve_by output names found
+resolve_gives output names found text printed h none = rw none h
+
+-- ---- words that are no command
+
+never : {A : Type 0} → ⊥ ⊎ ⊥ → A
+never (inl wrong) = absurd wrong
+never (inr wrong) = absurd wrong
+
+none_refused : (n s limit : ℕ) (held : Contents) → s ≢ n → Exactly n s (Refused n limit held None)
+none_refused n s limit held differs = record { only = λ is. absurd (differs is); always = λ refused. absurd refused }
+
+none_judged : (limit : ℕ) (old new : Option Contents) (before now : ℕ) (x : List ℕ) → Judged limit None old new before now 2 x
+none_judged limit old new before now x = record {
+  object = λ held told _. none_refused 3 2 limit held (λ is. grind (arith, is));
+  large = λ held told _. record { only = λ is. grind (arith, is); always = λ large. never large };
+  resolution = λ held told _. none_refused 8 2 limit held (λ is. grind (arith, is));
+  spelled = λ held told _. none_refused 9 2 limit held (λ is. grind (arith, is));
+  image = λ held told _. none_refused 11 2 limit held (λ is. grind (arith, is));
+  unbuilt = λ held told _. none_refused 13 2 limit held (λ is. grind (arith, is));
+  complete = λ held told valid _. absurd valid;
+  done = λ is. grind (arith, is);
+  follows = λ is. grind (arith, is);
+  cut_short = λ is. grind (arith, is);
+  done_line = λ is. grind (arith, is);
+  large_line = λ is. grind (arith, is);
+  refused_line = λ is. grind (arith, is);
+}
+
+pub unspoken : (limit : ℕ) (command : Option Spoken) (old new : Option Contents) (before now : ℕ) (x : List ℕ) → command ≡ None → Judged limit command old new before now 2 x
+unspoken limit command old new before now x none =
+    subst (λ (c : Option Spoken). Judged limit c old new before now 2 x) (sym none) (none_judged limit old new before now x)
+
+-- ---- files that are read one after the other
+
+long_not_refused : (limit : ℕ) (held : Contents) (command : Spoken) (n : ℕ) → 4 ≢ n → IsOverLimit limit held (reads_of command) → Exactly n 4 (Refused n limit held (Some command))
+long_not_refused limit held command n differs over = record {
+  only = λ is. absurd (differs is);
+  always = λ refused. absurd (not_over limit held (reads_of command) refused.1.contents refused.1.read over);
+}
+
+-- a file that is too long refuses the command
+pub too_long : (limit : ℕ) (command : Spoken) (old new : Option Contents) (before now : ℕ) → IfSome old (λ held. IsOverLimit limit held (reads_of command))
+    → Judged limit (Some command) old new before now 4 file_bytes_line
+too_long limit command old new before now over =
+    let at = λ (held : Contents) (told : old ≡ Some held). told_at (λ held. IsOverLimit limit held (reads_of command)) old held over told in
+    let other = λ (n : ℕ) (differs : 4 ≢ n) (held : Contents) (told : old ≡ Some held). long_not_refused limit held command n differs (at held told) in
+    record {
+      object = λ held told _. other 3 (λ is. grind (arith, is)) held told;
+      large = λ held told _. record { only = λ _. inl (at held told); always = λ _. inl refl };
+      resolution = λ held told _. other 8 (λ is. grind (arith, is)) held told;
+      spelled = λ held told _. other 9 (λ is. grind (arith, is)) held told;
+      image = λ held told _. other 11 (λ is. grind (arith, is)) held told;
+      unbuilt = λ held told _. other 13 (λ is. grind (arith, is)) held told;
+      complete = λ held told valid _. absurd (not_over limit held (reads_of command) valid.2.contents valid.2.read (at held told));
+      done = λ is. grind (arith, is);
+      follows = λ is. grind (arith, is);
+      cut_short = λ is. grind (arith, is);
+      done_line = λ is. grind (arith, is);
+      large_line = λ _. told_map (λ held. IsOverLimit limit held (reads_of command)) (λ held. IsLimitLine limit held command file_bytes_line) old (λ held h. inl (h, refl)) over;
+      refused_line = λ is. grind (arith, is);
+    }
+
+-- a command whose files were all read
+pub attempted : (limit : ℕ) (command : Spoken) (old new : Option Contents) (s : ℕ) (cs : List (List ℕ)) → IsTrue (is_status s) → s ≢ 2 → s ≢ 7
+    → IfSome old (λ held. AreHeld limit held (reads_of command) cs) → (IsTrue (is_early s) → new ≡ old) → Attempt limit (Some command) old new s
+attempted limit command old new s cs status not_2 not_7 read early = record {
+  answers = status;
+  words = record { only = λ is. absurd (not_2 is); always = λ none. grind (arith, none) };
+  absent = λ held told absent. absurd (held_not_absent limit held (reads_of command) cs (told_at (λ held. AreHeld limit held (reads_of command) cs) old held read told) absent);
+  early = early;
+  memory = λ is. absurd (not_7 is);
+}
+
+-- a command one of whose files is too long
+pub attempted_long : (limit : ℕ) (command : Spoken) (old new : Option Contents) → new ≡ old → IfSome old (λ held. IsOverLimit limit held (reads_of command))
+    → Attempt limit (Some command) old new 4
+attempted_long limit command old new same over = record {
+  answers = refl;
+  words = record { only = λ is. grind (arith, is); always = λ none. grind (arith, none) };
+  absent = λ held told absent. absurd (over_not_absent limit held (reads_of command) (told_at (λ held. IsOverLimit limit held (reads_of command)) old held over told) absent);
+  early = λ _. same;
+  memory = λ _. same;
+}

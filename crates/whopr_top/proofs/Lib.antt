@@ -1,2 +1,4 @@
 pub mod Judging
+pub mod ObjectsInOrder
+pub mod ReadingFiles
 pub mod Telling

@@ -1,20 +1,28 @@
 -- What a command comes to by the bytes of the files that it reads, every fault of the outside set aside: a case a command.
-use Rattle.std.specs.Prelude.{◌≡◌, ℕ, List, [], ◌∷◌, ◌++◌, Option, None, Some, Result, Ok, Err, codes, decimal}
+use Rattle.std.specs.Prelude.{◌≡◌, ℕ, ◌+◌, map, List, [], ◌∷◌, ◌++◌, Option, None, Some, Result, Ok, Err, codes, decimal}
 use Rattle.gimple_ir.specs.declared.types.Module.{Module}
 use Rattle.gimple_syntax.specs.declared.text.TextFault.{TextFault}
 use Rattle.gimple_syntax.specs.Reading.{read_of}
 use Rattle.gimple_print.specs.Canonical.{text_of}
 use Rattle.lto_object.specs.declared.fault.ObjectFault.{ObjectFault}
-use Rattle.lto_object.specs.Objects.{object_of}
+use Rattle.lto_object.specs.BodyStream.{bodies_of}
+use Rattle.lto_object.specs.Objects.{object_of, ObjectData, summaries_of, symbols_of}
 use Rattle.lto_object.specs.ObjectReading.{read_of as read_object_of}
+use Rattle.module_stream.specs.Bodies.{body_of}
 use Rattle.rv64_meaning.specs.Machine.{Outcome}
 use Rattle.rv64_meaning.specs.Laws.{output_of}
 use Rattle.rv64_meaning.specs.Loading.{load_fault_of, run_of}
 use Rattle.plain_link.specs.declared.fault.LinkFault.{LinkFault}
 use Rattle.plain_link.specs.declared.fault.LinkFault.TheVariants.{Unbuilt, Limit}
 use Rattle.plain_link.specs.Linking.{link_of}
-use Rattle.whopr_words.specs.Commands.{Spoken, Cc, Lgen, Show, Run}
-use Rattle.whopr_top.specs.Lines.{line, outcome_line, text_line, object_line, limit_line}
+use Rattle.resolution_text.specs.declared.fault.ResolutionError.{ResolutionError}
+use Rattle.resolution_text.specs.declared.fault.ResolutionError.TheVariants as errors
+use Rattle.resolution_text.specs.declared.resolution.Resolution.{Resolution}
+use Rattle.resolution_text.specs.Printing.{text_of as resolution_text}
+use Rattle.symbol_resolution.specs.Resolving.{resolve_of}
+use Rattle.whopr_words.specs.Commands.{Spoken, Cc, Lgen, Show, Run, Resolve}
+use Rattle.whopr_top.specs.declared.refusal.ResolutionPlace.TheVariants.{AtLine, AtName}
+use Rattle.whopr_top.specs.Lines.{line, outcome_line, text_line, object_line, limit_line, resolution_line}
 
 -- a file that is written: its name and its bytes
 abbrev pub File : Type 0
@@ -52,9 +60,36 @@ abbrev pub run_by : List ℕ → Option ℕ → Outcome → Judgement
 run_by output (Some offset) outcome = Refuses 11 (line (codes "11 image " ++ decimal offset))
 run_by output None outcome = Gives ((output, output_of outcome) ∷ []) (outcome_line outcome)
 
+-- what is seen of the object of a module
+abbrev pub data_of : Module → ObjectData
+data_of m = record { source = m; summaries = summaries_of m; symbols = symbols_of m; bodies = map body_of (bodies_of m.functions) }
+
+-- the object with this number before those after it
+abbrev pub object_before : ℕ → Result Module ObjectFault → Result (List ObjectData) (ℕ × ObjectFault) → Result (List ObjectData) (ℕ × ObjectFault)
+object_before number (Err fault) more = Err (number, fault)
+object_before number (Ok m) (Ok more) = Ok (data_of m ∷ more)
+object_before number (Ok m) (Err refused) = Err refused
+
+-- the objects that files are, of which the first has this number; or the number and the fault of the first that is none
+abbrev pub objects_from : ℕ → List (List ℕ) → Result (List ObjectData) (ℕ × ObjectFault)
+objects_from number [] = Ok []
+objects_from number (bytes ∷ more) = object_before number (read_object_of bytes) (objects_from (number + 1) more)
+
+abbrev pub resolution_by : List ℕ → Result Resolution ResolutionError → Judgement
+resolution_by output (Ok resolution) = Gives ((output, resolution_text resolution) ∷ []) []
+resolution_by output (Err (errors.AtLine kind number)) = Refuses 8 (resolution_line kind (AtLine number))
+resolution_by output (Err (errors.AtName kind name)) = Refuses 8 (resolution_line kind (AtName name))
+resolution_by output (Err errors.NoMemory) = Refuses 7 (line (codes "7 memory"))
+
+-- `resolve`: the text of the resolution of the objects, under the names of their files
+abbrev pub resolve_by : List ℕ → List (List ℕ) → Result (List ObjectData) (ℕ × ObjectFault) → Judgement
+resolve_by output names (Ok objects) = resolution_by output (resolve_of objects names)
+resolve_by output names (Err refused) = Refuses 3 (object_line refused.0 refused.1)
+
 abbrev pub Judges : Spoken → List (List ℕ) → Judgement → Type 0
 Judges (Cc input output) (text ∷ []) judgement = judgement ≡ cc_by output (read_of text)
 Judges (Lgen input output) (text ∷ []) judgement = judgement ≡ lgen_by output (read_of text)
 Judges (Show object) (bytes ∷ []) judgement = judgement ≡ show_by (read_object_of bytes)
 Judges (Run image steps input output) (bytes ∷ given ∷ []) judgement = judgement ≡ run_by output (load_fault_of bytes) (run_of bytes given steps)
+Judges (Resolve output objects) contents judgement = judgement ≡ resolve_by output objects (objects_from 0 contents)
 Judges command contents judgement = ⊥

@@ -1,6 +1,8 @@
+pub mod Built
 pub mod Reads
 pub mod Lines
 pub mod Judgements
+pub mod ReadFaults
 pub mod Outputs
 pub mod Answers
 pub mod Attempts

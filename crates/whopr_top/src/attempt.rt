@@ -1,12 +1,14 @@
 // What a command does before it prints anything: its reads, its work and its writes. What it gives is the text that is printed.
 ghost use Rattle.std.specs.Prelude.{◌≡◌, [], Some, IfOk};
-ghost use Rattle.whopr_words.specs.Commands.{Cc, Lgen, Show, Run, words_of, command_of};
+ghost use Rattle.whopr_words.specs.Commands.{Cc, Lgen, Show, Run, words_of};
 ghost use Rattle.whopr_top.specs.Answers.{IsQuiet};
+ghost use Rattle.whopr_top.specs.Built.{command_of};
 ghost use Rattle.whopr_top.specs.Attempts.{Attempt, Counted, Lined, Judged};
 ghost use Rattle.whopr_top.specs.Refusal.{answer_of, text_of};
 
 use crate::objects::{image_of, object_of, shown};
 use crate::refusal::Refusal;
+use crate::resolving::resolve;
 use crate::running::run_image;
 use crate::top::FILE_BYTES;
 use gimple_syntax::{TextError, read_module};
@@ -42,6 +44,12 @@ pub fn attempt<'a, F: FileStore>(
                 out,
             },
         ) => run(alloc, image, steps, input, out, files),
+        Some(Command::Resolve { out, objects }) => resolve(alloc, out, objects, files),
+        Some(Command::Interp { .. }) => Err(Refusal::NoCommand),
+        Some(Command::Link { .. }) => Err(Refusal::NoCommand),
+        Some(Command::Batch { .. }) => Err(Refusal::NoCommand),
+        Some(Command::Replay { .. }) => Err(Refusal::NoCommand),
+        Some(Command::Gen { .. }) => Err(Refusal::NoCommand),
         None => Err(Refusal::NoCommand),
     }
 }

@@ -11,17 +11,22 @@ use Rattle.lto_object.specs.ObjectReading.{read_of as read_object_of}
 use Rattle.whopr_words.specs.Commands.{Spoken, Cc, Lgen, Show, Run, Resolve}
 use Rattle.rv64_meaning.specs.Laws.{output_of}
 use Rattle.rv64_meaning.specs.Loading.{load_fault_of, run_of}
-use Rattle.plain_link.specs.declared.fault.LinkFault.{LinkFault}
-use Rattle.plain_link.specs.declared.fault.LinkFault.TheVariants.{Unbuilt, Limit}
-use Rattle.plain_link.specs.Linking.{link_of}
-use Rattle.gimple_ir.specs.Programs.{IsChecked}
+use Rattle.gimple_ir.specs.declared.merged.Merged.{Merged}
+use Rattle.program_link.specs.declared.fault.LimitFault.{LimitFault}
+use Rattle.program_link.specs.Linking.{limits_of, first_passed}
+use Rattle.resolution_text.specs.declared.fault.ResolutionError.{ResolutionError}
+use Rattle.resolution_text.specs.declared.resolution.Resolution.{Resolution}
+use Rattle.symbol_resolution.specs.Resolving.{resolve_of}
+use Rattle.symbol_resolution.specs.Merging.{merged_of, program_of}
 use Rattle.link_laws.specs.Laws.{LinkedLoads, LinkedFollows}
 use Rattle.whopr_top.specs.Reads.{reads_of, AreHeld, IsOverLimit}
-use Rattle.whopr_top.specs.Lines.{line, text_line, object_line, outcome_line}
-use Rattle.whopr_top.specs.Judgements.{File, Judgement, Refuses, Gives, Judges, image_by, cc_by, lgen_by, show_by, run_by, objects_from, resolve_by}
+use Rattle.whopr_top.specs.Lines.{line, text_line, object_line, outcome_line, limit_line}
+use Rattle.whopr_top.specs.Judgements.{File, Judgement, Refuses, Gives, Judges, JudgesImage, JudgesMerged, JudgesResolved, JudgesLink, JudgesText, lgen_by, show_by, run_by, data_of, objects_from, unresolved, resolve_by}
+use Rattle.whopr_top.specs.Compiling.{IsCompiled}
 use Rattle.whopr_top.specs.Outputs.{IsJudged, IsRefused, IsDone, IsCutShort, WritesAll, CutsShort, Faithful, IsFaithful, Refused, IsTooLarge, IsValid}
 use Rattle.whopr_top.specs.Answers.{Exactly, IsLimitLine, file_bytes_line, is_status, is_early}
 use Rattle.whopr_top.specs.Attempts.{Attempt, Judged}
+use Rattle.whopr_top.proofs.ObjectImages.{by_limit}
 use Rattle.whopr_top.proofs.ReadingFiles.{over_not_absent, held_not_absent}
 
 -- a store holds one list of contents
@@ -48,8 +53,30 @@ alike_self (Gives w x) = tt
 alike_to : (a b c : Judgement) → a ≡ c → b ≡ c → Alike a b
 alike_to a b c e f = subst (λ (x : Judgement). Alike x b) (sym e) (subst (λ (y : Judgement). Alike c y) (sym f) (alike_self c))
 
+-- what `cc` comes to
+
+image_alike : (output : List ℕ) (objects : List ObjectData) (merged : Merged) (passed : Option LimitFault) (a b : Judgement) → JudgesImage output objects merged passed a
+    → JudgesImage output objects merged passed b → Alike a b
+image_alike output objects merged (Some passed) a b h k = alike_to a b (Refuses 4 (limit_line passed)) h k
+image_alike output objects merged None a b (image, is, h) (other, also, k) =
+    subst (λ (x : Judgement). Alike x b) (sym h) (subst (λ (y : Judgement). Alike (Gives ((output, image) ∷ []) []) y) (sym k) tt)
+
+merged_alike : (output : List ℕ) (objects : List ObjectData) (r : Result Merged ResolutionError) (a b : Judgement) → JudgesMerged output objects r a → JudgesMerged output objects r b → Alike a b
+merged_alike output objects (Ok merged) a b h k = image_alike output objects merged (first_passed (limits_of merged)) a b h k
+merged_alike output objects (Err fault) a b h k = alike_to a b (unresolved fault) h k
+
+resolved_alike : (output : List ℕ) (objects : List ObjectData) (names : List (List ℕ)) (r : Result Resolution ResolutionError) (a b : Judgement)
+    → JudgesResolved output objects names r a → JudgesResolved output objects names r b → Alike a b
+resolved_alike output objects names (Ok resolution) a b h k = merged_alike output objects (merged_of objects names resolution) a b h k
+resolved_alike output objects names (Err fault) a b h k = alike_to a b (unresolved fault) h k
+
+text_alike : (input output : List ℕ) (r : Result Module TextFault) (a b : Judgement) → JudgesText input output r a → JudgesText input output r b → Alike a b
+text_alike input output (Ok source) a b h k =
+    resolved_alike output (data_of source ∷ []) (input ∷ []) (resolve_of (data_of source ∷ []) (input ∷ [])) a b h k
+text_alike input output (Err fault) a b h k = alike_to a b (Refuses 9 (text_line fault.line fault.kind)) h k
+
 alike : (command : Spoken) (cs : List (List ℕ)) (a b : Judgement) → Judges command cs a → Judges command cs b → Alike a b
-alike (Cc input output) (text ∷ []) a b h k = alike_to a b (cc_by output (read_of text)) h k
+alike (Cc input output) (text ∷ []) a b h k = text_alike input output (read_of text) a b h k
 alike (Lgen input output) (text ∷ []) a b h k = alike_to a b (lgen_by output (read_of text)) h k
 alike (Show object) (bytes ∷ []) a b h k = alike_to a b (show_by (read_object_of bytes)) h k
 alike (Run image steps input output) (bytes ∷ given ∷ []) a b h k = alike_to a b (run_by output (load_fault_of bytes) (run_of bytes given steps)) h k
@@ -166,43 +193,24 @@ the_one old new name bytes (between, writes, same) = subst (λ (c : Contents). W
 
 -- ---- the image of a text that was compiled
 
-abbrev written_of : Judgement → List File
-written_of (Refuses s x) = []
-written_of (Gives w x) = w
-
-image_given : (output : List ℕ) (linked : Result (List ℕ) LinkFault) (w : List File) (x : List ℕ) → Gives w x ≡ image_by output linked
-    → (image : List ℕ) × (linked ≡ Ok image) × (w ≡ (output, image) ∷ [])
-image_given output (Ok image) w x h = (image, refl, ap written_of h)
-image_given output (Err Unbuilt) w x h = absurd (alike_to (Gives w x) (image_by output (Err Unbuilt)) (image_by output (Err Unbuilt)) h refl)
-image_given output (Err (Limit passed)) w x h = absurd (alike_to (Gives w x) (image_by output (Err (Limit passed))) (image_by output (Err (Limit passed))) h refl)
-
--- the module, and its image
-source_given : (output : List ℕ) (r : Result Module TextFault) (w : List File) (x : List ℕ) → Gives w x ≡ cc_by output r
-    → (source : Module) × (image : List ℕ) × (r ≡ Ok source) × (link_of source ≡ Ok image) × (w ≡ (output, image) ∷ [])
-source_given output (Err fault) w x h = absurd (alike_to (Gives w x) (cc_by output (Err fault)) (cc_by output (Err fault)) h refl)
-source_given output (Ok source) w x h = let given = image_given output (link_of source) w x h in (source, given.0, refl, given.1, given.2)
-
-abbrev ok_or : Module → Result Module TextFault → Module
-ok_or other (Ok source) = source
-ok_or other (Err fault) = other
-
--- a text is read to one module
-pub checked_source : (text : List ℕ) (source : Module) → IsChecked source → read_of text ≡ Ok source → (other : Module) → read_of text ≡ Ok other → IsChecked other
-checked_source text source checked read other same = subst IsChecked (ap (ok_or source) (sym read ∙ same)) checked
-
-pub faithful : LinkedLoads → LinkedFollows → (limit : ℕ) (input output text : List ℕ) (w : List File) (x : List ℕ) → Gives w x ≡ cc_by output (read_of text)
-    → (checked : (source : Module) → read_of text ≡ Ok source → IsChecked source) (old new : Contents) → AreHeld limit old (input ∷ []) (text ∷ []) → WritesAll w old new → IsFaithful input output old new
-faithful can_load follows limit input output text w x judged checked old new read writes =
-    let given = source_given output (read_of text) w x judged in
+pub faithful : LinkedLoads → LinkedFollows → (limit : ℕ) (input output text image : List ℕ) (source : Module) → read_of text ≡ Ok source
+    → IsCompiled (data_of source ∷ []) (input ∷ []) image → (old new : Contents) → AreHeld limit old (input ∷ []) (text ∷ []) → WritesAll ((output, image) ∷ []) old new
+    → IsFaithful input output old new
+faithful can_load follows limit input output text image source is compiled old new read writes =
+    let program = program_of (data_of source ∷ []) compiled.merged in
     record {
       text = text;
-      image = given.1;
-      source = given.0;
+      image = image;
+      source = source;
+      resolution = compiled.resolution;
+      merged = compiled.merged;
       held = read.0;
-      read = given.2;
-      written = (the_one old new output given.1 (subst (λ (files : List File). WritesAll files old new) given.4 writes)).written;
-      loads = can_load given.0 given.1 (checked given.0 given.2) given.3;
-      follows = follows given.0 given.1 (checked given.0 given.2) given.3;
+      read = is;
+      resolved = compiled.resolved;
+      merges = compiled.merges;
+      written = (the_one old new output image writes).written;
+      loads = can_load program compiled.merged image compiled.summarised compiled.within compiled.is_image;
+      follows = follows program compiled.merged image compiled.summarised compiled.within compiled.is_image;
     }
 
 -- ---- what the command came to
@@ -217,7 +225,6 @@ refused limit command old new before now s x cs not_0 not_6 read judged =
       resolution = λ held told _. exactly_refused limit held command cs s 8 x (at held told) judged;
       spelled = λ held told _. exactly_refused limit held command cs s 9 x (at held told) judged;
       image = λ held told _. exactly_refused limit held command cs s 11 x (at held told) judged;
-      unbuilt = λ held told _. exactly_refused limit held command cs s 13 x (at held told) judged;
       complete = λ held told valid _. absurd (held_refused limit held command cs s x (at held told) judged valid);
       done = λ is. absurd (not_0 is);
       follows = λ is. absurd (not_0 is);
@@ -241,7 +248,6 @@ done limit command old between new before now w x cs same read judged writes fol
       resolution = λ held told _. exactly_other limit held command cs 0 8 w x (λ is. grind (arith, is)) (at held told) judged;
       spelled = λ held told _. exactly_other limit held command cs 0 9 w x (λ is. grind (arith, is)) (at held told) judged;
       image = λ held told _. exactly_other limit held command cs 0 11 w x (λ is. grind (arith, is)) (at held told) judged;
-      unbuilt = λ held told _. exactly_other limit held command cs 0 13 w x (λ is. grind (arith, is)) (at held told) judged;
       complete = λ held told valid _. inl refl;
       done = λ _. told_with (λ held. AreHeld limit held (reads_of command) cs) (WritesAll w) (IsDone limit command) old new
           (λ held then h write. record { written = w; text = x; judged = record { contents = cs; read = h; judged = judged }; writes = write }) read then;
@@ -264,7 +270,6 @@ cut_short limit command old between new before now w x y cs same read judged wri
       resolution = λ held told _. exactly_other limit held command cs 6 8 w x (λ is. grind (arith, is)) (at held told) judged;
       spelled = λ held told _. exactly_other limit held command cs 6 9 w x (λ is. grind (arith, is)) (at held told) judged;
       image = λ held told _. exactly_other limit held command cs 6 11 w x (λ is. grind (arith, is)) (at held told) judged;
-      unbuilt = λ held told _. exactly_other limit held command cs 6 13 w x (λ is. grind (arith, is)) (at held told) judged;
       complete = λ held told valid still. absurd (still rose);
       done = λ is. grind (arith, is);
       follows = λ is. grind (arith, is);
@@ -278,16 +283,24 @@ cut_short limit command old between new before now w x y cs same read judged wri
 
 -- ---- the judgement of `cc`
 
-pub cc_faults : (output text : List ℕ) (fault : TextFault) → read_of text ≡ Err fault → Refuses 9 (text_line fault.line fault.kind) ≡ cc_by output (read_of text)
-cc_faults output text fault e = rw e refl
+pub cc_faults : (input output text : List ℕ) (fault : TextFault) → read_of text ≡ Err fault → JudgesText input output (read_of text) (Refuses 9 (text_line fault.line fault.kind))
+cc_faults input output text fault e = subst (λ (r : Result Module TextFault). JudgesText input output r (Refuses 9 (text_line fault.line fault.kind))) (sym e) refl
 
-pub cc_refuses : (output text : List ℕ) (source : Module) (fault : LinkFault) (judgement : Judgement) → read_of text ≡ Ok source → link_of source ≡ Err fault
-    → judgement ≡ image_by output (Err fault) → judgement ≡ cc_by output (read_of text)
-cc_refuses output text source fault judgement e linked is = rw (e, linked) is
+-- of the object of the module that the text is read to
+pub cc_links : (input output text : List ℕ) (source : Module) (judgement : Judgement) → read_of text ≡ Ok source
+    → JudgesLink output (data_of source ∷ []) (input ∷ []) judgement → JudgesText input output (read_of text) judgement
+cc_links input output text source judgement e judged = subst (λ (r : Result Module TextFault). JudgesText input output r judgement) (sym e) judged
 
-pub cc_gives : (output text image printed : List ℕ) (source : Module) → read_of text ≡ Ok source → link_of source ≡ Ok image → printed ≡ []
-    → Gives ((output, image) ∷ []) printed ≡ cc_by output (read_of text)
-cc_gives output text image printed source e linked none = rw (e, linked, none) refl
+link_gives : (output image printed : List ℕ) (objects : List ObjectData) (names : List (List ℕ)) → IsCompiled objects names image → printed ≡ []
+    → JudgesLink output objects names (Gives ((output, image) ∷ []) printed)
+link_gives output image printed objects names compiled none =
+    by_limit output objects names compiled.resolution compiled.merged None (Gives ((output, image) ∷ []) printed) compiled.resolved compiled.merges compiled.within
+    (image, compiled.is_image, ap (Gives ((output, image) ∷ [])) none)
+
+pub cc_gives : (input output text image printed : List ℕ) (source : Module) → read_of text ≡ Ok source → IsCompiled (data_of source ∷ []) (input ∷ []) image → printed ≡ []
+    → JudgesText input output (read_of text) (Gives ((output, image) ∷ []) printed)
+cc_gives input output text image printed source e compiled none =
+    cc_links input output text source (Gives ((output, image) ∷ []) printed) e (link_gives output image printed (data_of source ∷ []) (input ∷ []) compiled none)
 
 -- ---- the judgement of `lgen`
 
@@ -335,7 +348,6 @@ none_judged limit old new before now x = record {
   resolution = λ held told _. none_refused 8 2 limit held (λ is. grind (arith, is));
   spelled = λ held told _. none_refused 9 2 limit held (λ is. grind (arith, is));
   image = λ held told _. none_refused 11 2 limit held (λ is. grind (arith, is));
-  unbuilt = λ held told _. none_refused 13 2 limit held (λ is. grind (arith, is));
   complete = λ held told valid _. absurd valid;
   done = λ is. grind (arith, is);
   follows = λ is. grind (arith, is);
@@ -369,7 +381,6 @@ too_long limit command old new before now over =
       resolution = λ held told _. other 8 (λ is. grind (arith, is)) held told;
       spelled = λ held told _. other 9 (λ is. grind (arith, is)) held told;
       image = λ held told _. other 11 (λ is. grind (arith, is)) held told;
-      unbuilt = λ held told _. other 13 (λ is. grind (arith, is)) held told;
       complete = λ held told valid _. absurd (not_over limit held (reads_of command) valid.2.contents valid.2.read (at held told));
       done = λ is. grind (arith, is);
       follows = λ is. grind (arith, is);

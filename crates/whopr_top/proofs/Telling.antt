@@ -9,7 +9,7 @@ use Rattle.whopr_top.specs.Answers.{Exactly, lines_of, IsQuiet, CanBeSilent, IsL
 use Rattle.whopr_top.specs.Attempts.{Lined, Judged}
 use Rattle.whopr_top.specs.Refusal.{Reports, Tells, refusal_line, status_of}
 use Rattle.whopr_top.specs.declared.refusal.Refusal.{Refusal}
-use Rattle.whopr_top.specs.declared.refusal.Refusal.TheVariants.{NoCommand, Object, TooLong, Limit, Read, Write, Memory, Resolution, Text, Image, Unbuilt}
+use Rattle.whopr_top.specs.declared.refusal.Refusal.TheVariants.{NoCommand, Object, TooLong, Limit, Read, Write, Memory, Resolution, Text, Image}
 
 line_is : (limit : ℕ) (held new : Option Contents) (command : Option Spoken) (before now status : ℕ) (text : List ℕ) → Lined limit command held status text
     → Judged limit command held new before now status text → IsLine limit held command status text
@@ -27,7 +27,6 @@ line_is limit held new command before now status text lined judged = record {
   resolution = lined.resolution;
   spelled = lined.spelled;
   image = lined.image;
-  unbuilt = lined.unbuilt;
   refused = judged.refused_line;
 }
 
@@ -46,7 +45,6 @@ memory_line limit held command = record {
   resolution = λ is. grind (arith, is);
   spelled = λ is. grind (arith, is);
   image = λ is. grind (arith, is);
-  unbuilt = λ is. grind (arith, is);
   refused = λ is. grind (arith, is);
 }
 
@@ -66,7 +64,6 @@ not_done Memory = λ is. grind (arith, is)
 not_done (Resolution kind place) = λ is. grind (arith, is)
 not_done (Text at kind) = λ is. grind (arith, is)
 not_done (Image offset) = λ is. grind (arith, is)
-not_done Unbuilt = λ is. grind (arith, is)
 
 some : (byte : ℕ) (text : List ℕ) → byte ∷ text ≢ []
 some byte text = λ is. grind (arith, is)
@@ -86,7 +83,6 @@ refusal_is_some Memory = line_is_some (codes "7 memory")
 refusal_is_some (Resolution kind place) = line_is_some ((codes "8 resolution " ++ resolution_word kind) ++ spaced (resolution_place place))
 refusal_is_some (Text at kind) = line_is_some ((codes "9 text " ++ (decimal at ++ codes " ")) ++ kind_word kind)
 refusal_is_some (Image offset) = line_is_some (codes "11 image " ++ decimal offset)
-refusal_is_some Unbuilt = line_is_some (codes "13 unbuilt")
 
 pub outcome_is_some : (outcome : Outcome) → outcome_line outcome ≢ []
 outcome_is_some (Running output) = line_is_some (codes "running")
@@ -125,7 +121,6 @@ done_lined limit command old text quiet silent = record {
   resolution = λ is. grind (arith, is);
   spelled = λ is. grind (arith, is);
   image = λ is. grind (arith, is);
-  unbuilt = λ is. grind (arith, is);
 }
 
 pub told : (limit : ℕ) (held new : Option Contents) (command : Option Spoken) (before now result : ℕ) (text : List ℕ) (old known : Known)

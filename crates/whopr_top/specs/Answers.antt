@@ -4,7 +4,7 @@ use Rattle.std.specs.List.{list_any}
 use Rattle.outer_files.specs.Outside.{Contents, Known, TookPiece, FailedPiece, LackedMemory}
 use Rattle.gimple_syntax.specs.declared.text.TextKind.{TextKind}
 use Rattle.lto_object.specs.declared.fault.ObjectFault.{ObjectFault}
-use Rattle.plain_link.specs.declared.fault.LimitFault.{LimitFault}
+use Rattle.program_link.specs.declared.fault.LimitFault.{LimitFault}
 use Rattle.resolution_text.specs.declared.fault.ResolutionKind.{ResolutionKind}
 use Rattle.whopr_top.specs.declared.refusal.ResolutionPlace.{ResolutionPlace}
 use Rattle.whopr_words.specs.Commands.{Spoken, Cc, Lgen, Show, Resolve}
@@ -20,15 +20,15 @@ pub record Exactly (status result : ℕ) (cause : Type 0) : Type 0 where
 
 -- the statuses that there are
 abbrev pub is_status : ℕ → Bool
-is_status status = list_any (λ s. s == status) (0 ∷ 2 ∷ 3 ∷ 4 ∷ 5 ∷ 6 ∷ 7 ∷ 8 ∷ 9 ∷ 11 ∷ 13 ∷ [])
+is_status status = list_any (λ s. s == status) (0 ∷ 2 ∷ 3 ∷ 4 ∷ 5 ∷ 6 ∷ 7 ∷ 8 ∷ 9 ∷ 11 ∷ [])
 
 -- the statuses of a command that was refused before its first write
 abbrev pub is_early : ℕ → Bool
-is_early status = list_any (λ s. s == status) (2 ∷ 3 ∷ 4 ∷ 5 ∷ 8 ∷ 9 ∷ 11 ∷ 13 ∷ [])
+is_early status = list_any (λ s. s == status) (2 ∷ 3 ∷ 4 ∷ 5 ∷ 8 ∷ 9 ∷ 11 ∷ [])
 
 -- the statuses of a command that what it read refuses
 abbrev pub is_judged : ℕ → Bool
-is_judged status = list_any (λ s. s == status) (3 ∷ 8 ∷ 9 ∷ 11 ∷ 13 ∷ [])
+is_judged status = list_any (λ s. s == status) (3 ∷ 8 ∷ 9 ∷ 11 ∷ [])
 
 -- how many lines that name a file are printed with a status of 5 or 6, where the sink itself does not fail
 abbrev pub lines_of : ℕ → ℕ
@@ -72,7 +72,6 @@ pub record IsLine (limit : ℕ) (held : Option Contents) (command : Option Spoke
   pub resolution : status ≡ 8 → (kind : ResolutionKind) × (place : ResolutionPlace) × (text ≡ resolution_line kind place)
   pub spelled : status ≡ 9 → (at : ℕ) × (kind : TextKind) × (text ≡ text_line at kind)
   pub image : status ≡ 11 → (offset : ℕ) × (text ≡ line (codes "11 image " ++ decimal offset))
-  pub unbuilt : status ≡ 13 → text ≡ line (codes "13 unbuilt")
   pub refused : IsTrue (is_judged status) → IfSome held (λ files. IsSomeAnd command (λ c. IsRefused limit c files status text))
 
 -- the line for the sink, where it fails itself

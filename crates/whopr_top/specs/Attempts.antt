@@ -4,7 +4,7 @@ use Rattle.std.specs.Option.{ForSome}
 use Rattle.outer_files.specs.Outside.{Contents, WhereTold, Rose, RoseBy}
 use Rattle.gimple_syntax.specs.declared.text.TextKind.{TextKind}
 use Rattle.lto_object.specs.declared.fault.ObjectFault.{ObjectFault}
-use Rattle.plain_link.specs.declared.fault.LimitFault.{LimitFault}
+use Rattle.program_link.specs.declared.fault.LimitFault.{LimitFault}
 use Rattle.resolution_text.specs.declared.fault.ResolutionKind.{ResolutionKind}
 use Rattle.whopr_top.specs.declared.refusal.ResolutionPlace.{ResolutionPlace}
 use Rattle.whopr_words.specs.Commands.{Spoken}
@@ -41,7 +41,6 @@ pub record Lined (limit : ℕ) (command : Option Spoken) (old : Option Contents)
   pub resolution : status ≡ 8 → (kind : ResolutionKind) × (place : ResolutionPlace) × (text ≡ resolution_line kind place)
   pub spelled : status ≡ 9 → (at : ℕ) × (kind : TextKind) × (text ≡ text_line at kind)
   pub image : status ≡ 11 → (offset : ℕ) × (text ≡ line (codes "11 image " ++ decimal offset))
-  pub unbuilt : status ≡ 13 → text ≡ line (codes "13 unbuilt")
 
 -- what the command comes to by what it read
 pub record Judged (limit : ℕ) (command : Option Spoken) (old new : Option Contents) (before now status : ℕ) (text : List ℕ) : Type 0 where
@@ -50,7 +49,6 @@ pub record Judged (limit : ℕ) (command : Option Spoken) (old new : Option Cont
   pub resolution : ForSome old (λ held. status ≢ 5 → Exactly 8 status (Refused 8 limit held command))
   pub spelled : ForSome old (λ held. status ≢ 5 → Exactly 9 status (Refused 9 limit held command))
   pub image : ForSome old (λ held. status ≢ 5 → Exactly 11 status (Refused 11 limit held command))
-  pub unbuilt : ForSome old (λ held. status ≢ 5 → Exactly 13 status (Refused 13 limit held command))
   pub complete : ForSome old (λ held. IsValid limit held command → ¬ Rose before now → (status ≡ 0) ⊎ (status ≡ 7))
   pub done : status ≡ 0 → WhereTold old new (Done limit command)
   pub follows : status ≡ 0 → WhereTold old new (Faithful command)

@@ -7,9 +7,9 @@ use Rattle.gimple_syntax.specs.declared.text.TextKind.{TextKind}
 use Rattle.gimple_syntax.specs.declared.text.TextKind.TheVariants.{Byte, Syntax, Literal, Check}
 use Rattle.lto_object.specs.declared.fault.ObjectFault.{ObjectFault}
 use Rattle.lto_object.specs.declared.fault.ObjectFault.TheVariants.{NotElf, WrongClass, WrongMachine, Truncated, MissingSection, DoubleSection, Compressed, BadVersion, BadStream, Trailing, TypeFault, SummaryDiffers, SymbolsDiffer, BadLayout}
-use Rattle.plain_link.specs.declared.fault.LimitFault.{LimitFault}
-use Rattle.plain_link.specs.declared.fault.Quantity.{Quantity}
-use Rattle.plain_link.specs.declared.fault.Quantity.TheVariants.{LinkFunctions, LinkCode, LinkData}
+use Rattle.program_link.specs.declared.fault.LimitFault.{LimitFault}
+use Rattle.program_link.specs.declared.fault.Quantity.{Quantity}
+use Rattle.program_link.specs.declared.fault.Quantity.TheVariants.{LinkFunctions, LinkCode, LinkData}
 use Rattle.resolution_text.specs.declared.fault.ResolutionKind.{ResolutionKind}
 use Rattle.resolution_text.specs.declared.fault.ResolutionKind.TheVariants.{BadLine, FileCount, FileName, SymbolCount, SymbolName, NativeWord, NoPrevailing, TwoPrevailing, WordKind, TypeMismatch, NoMain}
 use Rattle.whopr_top.specs.declared.refusal.ResolutionPlace.{ResolutionPlace}

@@ -3,7 +3,7 @@ use Rattle.std.specs.Prelude.{◌≡◌, ◌⊎◌, ℕ, List, [], ◌∷◌, �
 use Rattle.std.specs.declared.alloc.Global.{Global}
 use Rattle.outer_files.specs.Outside.{Known}
 use Rattle.whopr_top.specs.declared.refusal.Refusal.{Refusal}
-use Rattle.whopr_top.specs.declared.refusal.Refusal.TheVariants.{NoCommand, Object, TooLong, Limit, Read, Write, Memory, Resolution, Text, Image, Unbuilt}
+use Rattle.whopr_top.specs.declared.refusal.Refusal.TheVariants.{NoCommand, Object, TooLong, Limit, Read, Write, Memory, Resolution, Text, Image}
 use Rattle.whopr_top.specs.Lines.{line, text_line, object_line, limit_line, resolution_line}
 use Rattle.whopr_top.specs.Answers.{file_bytes_line, Puts}
 
@@ -18,7 +18,6 @@ status_of Memory = 7
 status_of (Resolution kind place) = 8
 status_of (Text at kind) = 9
 status_of (Image offset) = 11
-status_of Unbuilt = 13
 
 abbrev pub refusal_line : Refusal → List ℕ
 refusal_line NoCommand = line (codes "2 words")
@@ -31,7 +30,6 @@ refusal_line Memory = line (codes "7 memory")
 refusal_line (Resolution kind place) = resolution_line kind place
 refusal_line (Text at kind) = text_line at kind
 refusal_line (Image offset) = line (codes "11 image " ++ decimal offset)
-refusal_line Unbuilt = line (codes "13 unbuilt")
 
 -- the status of a command that was done or refused, and the text that goes with it
 abbrev pub answer_of : Result (Vec ℕ Global) Refusal → ℕ

@@ -6,6 +6,7 @@
 #![tactic(auto)]
 
 mod attempt;
+mod compiling;
 mod lines;
 mod objects;
 mod reads;

@@ -7,7 +7,7 @@ use crate::refusal::ResolutionPlace;
 use gimple_ir::{TypeFault, TypeKind};
 use gimple_syntax::TextKind;
 use lto_object::ObjectFault;
-use plain_link::{LimitFault, Quantity};
+use program_link::{LimitFault, Quantity};
 use rv64_meaning::MachineState;
 use std::alloc::{AllocError, Global};
 use symbol_resolution::ResolutionKind;

@@ -6,7 +6,7 @@ use crate::lines::{limit_line, object_line, resolution_line, text_line};
 use gimple_ir::Name;
 use gimple_syntax::TextKind;
 use lto_object::ObjectFault;
-use plain_link::LimitFault;
+use program_link::LimitFault;
 use std::alloc::{AllocError, Global};
 use symbol_resolution::ResolutionKind;
 
@@ -36,14 +36,12 @@ pub enum Refusal<'a> {
     Write(&'a str),
     /// 7: there was no memory.
     Memory,
-    /// 8: the objects have no resolution; the first fault.
+    /// 8: the objects have no resolution, or do not merge under it; the first fault.
     Resolution(ResolutionKind, ResolutionPlace),
     /// 9: the text is outside the grammar, or the checks refuse it; the line and the kind of its first fault.
     Text(u32, TextKind),
     /// 11: the image has its first fault at this byte.
     Image(u64),
-    /// 13: the module is no whole program by itself.
-    Unbuilt,
 }
 
 impl Refusal<'_> {
@@ -61,7 +59,6 @@ impl Refusal<'_> {
             Refusal::Resolution(_, _) => 8,
             Refusal::Text(_, _) => 9,
             Refusal::Image(_) => 11,
-            Refusal::Unbuilt => 13,
         }
     }
 }
@@ -81,6 +78,5 @@ pub fn refusal_line(alloc: Global, refusal: Refusal<'_>) -> Result<String, Alloc
         Refusal::Resolution(kind, place) => resolution_line(alloc, kind, &place),
         Refusal::Text(line, kind) => text_line(alloc, line, kind),
         Refusal::Image(offset) => format!(in alloc; "11 image {offset}\n"),
-        Refusal::Unbuilt => format!(in alloc; "13 unbuilt\n"),
     }
 }

@@ -56,7 +56,8 @@ pub fn objects_of(alloc: Global, contents: &[Vec<u8>]) -> Result<Vec<Object<'_>>
     Ok(objects)
 }
 
-fn name_of(alloc: Global, word: &str) -> Result<Name, NoMemory>
+/// The name that a word of a command is.
+pub fn name_of(alloc: Global, word: &str) -> Result<Name, NoMemory>
     requires { is_file_name word.now ≡ true }
     ensures { IfOk result (λ name. name ≡ word.now) }
 {

@@ -18,7 +18,7 @@ pub const FILE_BYTES: u64 = 16 << 20;
 
 /// Does one command and answers its status; the words do not hold the program's name. So far there are
 ///
-/// - `cc IN OUT`, which compiles the text IN, a whole program by itself, to the image OUT and prints nothing;
+/// - `cc IN OUT`, which links the object of the text IN, a whole program by itself, to the image OUT and prints nothing;
 /// - `lgen IN OUT`, which writes the object of the text IN to OUT and prints nothing;
 /// - `show OBJ`, which prints the canonical text of the module of the object OBJ and writes nothing;
 /// - `run IMAGE STEPS INPUT OUT`, which runs the image for at most STEPS steps on the bytes of INPUT, writes its output to OUT,
@@ -34,10 +34,9 @@ pub const FILE_BYTES: u64 = 16 << 20;
 /// | 5 | `5 read NAME` | a file could not be read; the first |
 /// | 6 | `6 write NAME` | the file could not be written; `-` is the sink |
 /// | 7 | `7 memory` | there was no memory |
-/// | 8 | `8 resolution KIND NAME` | the objects define the name twice, or not at all |
+/// | 8 | `8 resolution KIND NAME` | the objects define the name twice, or not at all, or no `int main ()` that is strong or weak; for `cc`, a statement names a declaration, or there is no such `main` |
 /// | 9 | `9 text LINE KIND` | the text is outside the grammar or the checks; its first fault is in this line |
 /// | 11 | `11 image OFFSET` | the image can't be loaded; its first fault is at this byte |
-/// | 13 | `13 unbuilt` | a statement names a declaration, or there is no `int main ()` that is strong or weak |
 pub fn plain<F: FileStore, K: Sink>(
     alloc: Global,
     words: &[String],
@@ -53,7 +52,6 @@ pub fn plain<F: FileStore, K: Sink>(
     ensures resolution { ForSome (F.held files.old) (λ held. result ≢ 5 → Exactly 8 result (Refused 8 FILE_BYTES held (command_of (words_of words.now)))) }
     ensures text { ForSome (F.held files.old) (λ held. result ≢ 5 → Exactly 9 result (Refused 9 FILE_BYTES held (command_of (words_of words.now)))) }
     ensures image { ForSome (F.held files.old) (λ held. result ≢ 5 → Exactly 11 result (Refused 11 FILE_BYTES held (command_of (words_of words.now)))) }
-    ensures unbuilt { ForSome (F.held files.old) (λ held. result ≢ 5 → Exactly 13 result (Refused 13 FILE_BYTES held (command_of (words_of words.now)))) }
     ensures read { result ≡ 5 → Rose (F.faults files.old) (F.faults files.new) }
     ensures write { result ≡ 6 → Rose (F.faults files.old) (F.faults files.new) ⊎ (Rose (K.known out.old).faults (K.known out.new).faults × ¬ IsQuiet (command_of (words_of words.now))) }
     ensures counting { RoseBy (lines_of result) (F.faults files.old) (F.faults files.new)
@@ -100,7 +98,6 @@ pub fn whopr<F: FileStore, K: Sink>(
     ensures resolution { ForSome (F.held files.old) (λ held. result ≢ 5 → Exactly 8 result (Refused 8 FILE_BYTES held (command_of (words_of words.now)))) }
     ensures text { ForSome (F.held files.old) (λ held. result ≢ 5 → Exactly 9 result (Refused 9 FILE_BYTES held (command_of (words_of words.now)))) }
     ensures image { ForSome (F.held files.old) (λ held. result ≢ 5 → Exactly 11 result (Refused 11 FILE_BYTES held (command_of (words_of words.now)))) }
-    ensures unbuilt { ForSome (F.held files.old) (λ held. result ≢ 5 → Exactly 13 result (Refused 13 FILE_BYTES held (command_of (words_of words.now)))) }
     ensures read { result ≡ 5 → Rose (F.faults files.old) (F.faults files.new) }
     ensures write { result ≡ 6 → Rose (F.faults files.old) (F.faults files.new) ⊎ (Rose (K.known out.old).faults (K.known out.new).faults × ¬ IsQuiet (command_of (words_of words.now))) }
     ensures counting { RoseBy (lines_of result) (F.faults files.old) (F.faults files.new)

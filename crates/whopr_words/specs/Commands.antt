@@ -100,7 +100,8 @@ abbrev pub command_of : List (List ℕ) → Option Spoken
 command_of [] = None
 command_of (verb ∷ words) = if bytes_eq verb (codes "resolve") then resolve_of words else command_by verb words
 
--- the objects of a command that names some are 1 to 256 files
+-- the objects of a command that links or resolves them are 1 to 256 files; `cc` links the object of its text alone, under that one's name
 abbrev pub HasObjects : Spoken → Type 0
+HasObjects (Cc input output) = is_file_name input ≡ true
 HasObjects (Resolve output objects) = are_objects objects ≡ true
 HasObjects command = Unit {0}

@@ -13,4 +13,4 @@ link_program-requires c =
     let merged = c.in_ok-merged.merged in
     let few = tested _ c.are_few.result c.if-not-are_few.false c.are_few.ensures in
     subst (λ (p : Program). IsSummarised p merged) (sym c.in_ok-program.ensures.exact)
-    (c.merged_programs.ensures.summarised c.args.objects.now c.args.names.now c.args.resolution.now merged c.all_are_objects.ensures few c.in_ok-merged.ensures.exact)
+    (c.merged_programs.ensures.summarised c.args.objects.now c.args.names.now c.args.resolution.now merged c.all_are_objects.ensures few c.requires.names c.in_ok-merged.ensures.exact)

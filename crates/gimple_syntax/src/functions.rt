@@ -125,13 +125,13 @@ fn statements_of(
 ) -> Result<List<Statement>, NoMemory>
     ensures { IfOk result (λ found. found ≡ statements_from scope.now returned 0 lines.now) }
 {
-    let mut found = List::new(alloc);
+    let mut found = Vec::with_capacity(alloc, lines.len())?;
     let mut labels = 0usize;
     for line in lines {
         found.push(statement_of(alloc, scope, returned, labels, &line.form)?)?;
         labels += labels_in(&line.form);
     }
-    Ok(found)
+    Ok(List::from_vec(found))
 }
 
 /// The function with this head and body. No variable has more than 8 components, so it is linear in the text's size.

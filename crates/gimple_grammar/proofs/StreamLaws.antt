@@ -13,7 +13,7 @@ use Rattle.gimple_grammar.proofs.Loops.{many-first}
 
 -- no item is left where the text ends
 pub text-end : (ts : List Placed) (line : ℕ) → ts ≡ placed End line ∷ [] → module_text.read ts ≡ Ok ([], [])
-unfolding (module_text, many_at, past)
+unfolding module_text many_at past
 text-end ts line e = rw e refl
 
 -- the items, and then the end

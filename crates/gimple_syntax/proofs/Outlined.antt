@@ -1,5 +1,5 @@
 -- The outlines of items stand for the items, but for the bodies of functions.
-use Rattle.std.proofs.Common.{◌≡◌, ⊥, ◌+◌, ◌<◌, ◌^◌, ℕ, List, [], ◌∷◌, ◌++◌, length, map, Option, Some, None, Result, Ok, Err, IfOk, refl, ap, sym, ◌∙◌, inl, inr}
+use Rattle.std.proofs.Common.{◌≡◌, ◌+◌, ◌<◌, ◌^◌, List, [], ◌∷◌, ◌++◌, length, map, Option, Some, None, Result, Ok, Err, IfOk, refl, ap, sym, ◌∙◌, arith, inl, inr}
 use Rattle.std.proofs.lemmas.List.{length-map}
 use Rattle.std.specs.List.{filter_map, cons_option}
 use Rattle.gimple_ir.specs.declared.types.Array.{Array}
@@ -56,7 +56,7 @@ keeps-head (item.Function linkage f body) = refl
 keeps : {B : Type 0} (h : Item → Option B) → ((x : Item) → h (without_body x) ≡ h x) → (items : List ItemLine)
     → filter_map (λ (i : ItemLine). h i.item) (outlines_of items) ≡ filter_map (λ (i : ItemLine). h i.item) items
 keeps h e [] = refl
-keeps h e (i ∷ items) = ap (λ o. cons_option o (filter_map (λ (j : ItemLine). h j.item) (outlines_of items))) (e i.item) ∙ ap (cons_option (h i.item)) (keeps h e items)
+keeps {B = B} h e (i ∷ items) = ap (λ (o : Option B). cons_option o (filter_map (λ (j : ItemLine). h j.item) (outlines_of items))) (e i.item) ∙ ap (cons_option (h i.item)) (keeps h e items)
 
 keeps-array_text : (x : Item) → array_text (without_body x) ≡ array_text x
 keeps-array_text (item.Struct s) = refl
@@ -73,9 +73,9 @@ arrays_named items = filter_map (λ (i : ItemLine). array_text i.item) items
 
 pub items-are : (items : List ItemLine) → items_of (outlines_of items) ≡ items_of items
 items-are items =
-    ap (λ ss. named ss (arrays_named (outlines_of items)) (function_heads (outlines_of items))) (keeps struct_in keeps-struct items)
-    ∙ ap (λ texts. named (structs_in items) texts (function_heads (outlines_of items))) (keeps array_text keeps-array_text items)
-    ∙ ap (λ heads. named (structs_in items) (arrays_named items) heads) (keeps function_head keeps-head items)
+    ap (λ (ss : List StructText). named ss (arrays_named (outlines_of items)) (function_heads (outlines_of items))) (keeps struct_in keeps-struct items)
+    ∙ ap (λ (texts : List ArrayText). named (structs_in items) texts (function_heads (outlines_of items))) (keeps array_text keeps-array_text items)
+    ∙ ap (λ (heads : List FunctionText). named (structs_in items) (arrays_named items) heads) (keeps function_head keeps-head items)
 
 -- ---- the module
 
@@ -89,16 +89,16 @@ unfolding module_of
 numbered-by items outlines names functions is known made =
     let all : names ≡ items_of items = known ∙ ap items_of (sym is) ∙ items-are items in
     let structs : map struct_of (structs_in items) ≡ map struct_of (structs_in outlines) =
-    ap (map struct_of) (sym (keeps struct_in keeps-struct items)) ∙ ap (λ os. map struct_of (structs_in os)) is in
+    ap (map struct_of) (sym (keeps struct_in keeps-struct items)) ∙ ap (λ (os : List ItemLine). map struct_of (structs_in os)) is in
     let arrays : map array_of (arrays_in items) ≡ map array_of (arrays_in outlines) =
-    ap (map array_of) (sym (keeps array_in keeps-array items)) ∙ ap (λ os. map array_of (arrays_in os)) is in
-    let fs : functions_from (items_of items) items ≡ functions = ap (λ n. functions_from n items) (sym all) ∙ made in
-    ap (λ ss. parts_of ss (map array_of (arrays_in items)) (functions_from (items_of items) items)) structs
-    ∙ ap (λ xs. parts_of (map struct_of (structs_in outlines)) xs (functions_from (items_of items) items)) arrays
-    ∙ ap (λ xs. parts_of (map struct_of (structs_in outlines)) (map array_of (arrays_in outlines)) xs) fs
+    ap (map array_of) (sym (keeps array_in keeps-array items)) ∙ ap (λ (os : List ItemLine). map array_of (arrays_in os)) is in
+    let fs : functions_from (items_of items) items ≡ functions = ap (λ (n : Items). functions_from n items) (sym all) ∙ made in
+    ap (λ (ss : List StructDef). parts_of ss (map array_of (arrays_in items)) (functions_from (items_of items) items)) structs
+    ∙ ap (λ (xs : List Array). parts_of (map struct_of (structs_in outlines)) xs (functions_from (items_of items) items)) arrays
+    ∙ ap (λ (xs : List Function). parts_of (map struct_of (structs_in outlines)) (map array_of (arrays_in outlines)) xs) fs
 
 both-are : {A : Type 0} (x y : A) (ts us : List Placed) → x ≡ y → ts ≡ us → pair x ts ≡ pair y us
-both-are x y ts us e f = ap (λ z. pair z ts) e ∙ ap (λ (vs : List Placed). pair y vs) f
+both-are {A = A} x y ts us e f = ap (λ (z : A). pair z ts) e ∙ ap (λ (vs : List Placed). pair y vs) f
 
 -- the module of the outlines and the functions
 pub numbered : (read : Result (List ItemLine × List Placed) Stuck) (outlines : List ItemLine) (names : Items) (functions : List Function)
@@ -136,7 +136,7 @@ pub all_counted : (read : Result (List ItemLine × List Placed) Stuck) (outlines
 all_counted (Ok x) outlines m o h =
     length-module_of x.0 m (sym (first-is (module_of x.0) m x.1 [] h))
     ∙ sym (length-map x.0 outline_of)
-    ∙ ap (λ os. length os) (first-is (outlines_of x.0) outlines x.1 [] o)
+    ∙ ap (λ (os : List ItemLine). length os) (first-is (outlines_of x.0) outlines x.1 [] o)
 all_counted (Err s) outlines m o h = absurd (cc o)
 
 -- as few as a text of this length has
@@ -144,9 +144,9 @@ pub few-outlines : (read : Result (List ItemLine × List Placed) Stuck) (outline
     → ((answer : Answer) → GivesText answer read → IfOk answer (λ items. length items < 2 ^ 32))
     → read_as outlines_of read ≡ Ok (outlines, []) → length outlines < 2 ^ 32
 few-outlines (Ok x) outlines few o =
-    let count : length outlines ≡ length x.0 = ap (λ os. length os) (sym (first-is (outlines_of x.0) outlines x.1 [] o)) ∙ length-map x.0 outline_of in
+    let count : length outlines ≡ length x.0 = ap (λ (os : List ItemLine). length os) (sym (first-is (outlines_of x.0) outlines x.1 [] o)) ∙ length-map x.0 outline_of in
     let less : length x.0 < 2 ^ 32 = few (Ok x.0) (ap (λ (ts : List Placed). pair x.0 ts) (rest-is (outlines_of x.0) outlines x.1 [] o)) in
-    rw count less
+    omega (arith, count, less)
 few-outlines (Err s) outlines few o = absurd (cc o)
 
 -- a module without a fault
@@ -156,10 +156,13 @@ passes (Ok x) m h none =
     both-are (checked x.0) (Ok m) x.1 [] (checked-again x.0 m (first-is (module_of x.0) m x.1 [] h) none) (rest-is (module_of x.0) m x.1 [] h)
 passes (Err s) m h none = absurd (cc h)
 
+abbrev faulty : TextFault → Result Module TextFault
+faulty fault = Err fault
+
 fault-found : (items : List ItemLine) (m : Module) (fault : TypeFault) (found : TextFault) → module_of items ≡ m → fault_of m ≡ Some fault → check_fault items fault ≡ found
     → checked items ≡ Err found
 unfolding checked
-fault-found items m fault found is some line = ap (checked_by items) (ap fault_of is ∙ some) ∙ ap (λ f. Err f) line
+fault-found items m fault found is some line = ap (checked_by items) (ap fault_of is ∙ some) ∙ ap faulty line
 
 -- a module with a fault
 pub fails : (read : Result (List ItemLine × List Placed) Stuck) (m : Module) (fault : TypeFault) (found : TextFault)

@@ -1,16 +1,13 @@
 -- Passing over the items of a text one by one.
-use Rattle.std.proofs.Common.{◌≡◌, ◌<◌, ◌+◌, ℕ, suc, List, [], ◌∷◌, ◌++◌, length, map, drop, Bool, true, false, Option, Some, None, Result, Ok, Err, refl, ap, sym, subst, ◌∙◌, append_assoc, arith, inl, inr}
-use Rattle.std.proofs.lemmas.List.{append-nil, length-map}
+use Rattle.std.proofs.Common.{◌≡◌, ◌<◌, ℕ, suc, List, [], ◌∷◌, ◌++◌, length, map, Bool, true, false, Option, Some, None, Result, Ok, Err, refl, ap, sym, ◌∙◌, append_assoc, arith}
+use Rattle.std.proofs.lemmas.List.{append-nil}
 use Rattle.std.proofs.lemmas.List.Concat.{flat_map-cons, flat_map_single}
-use Rattle.std.specs.List.{flat_map, filter_map, cons_option}
+use Rattle.std.specs.List.{flat_map, cons_option}
 use Rattle.std.specs.Option.{option_map, option_to_list}
 use Rattle.gimple_ir.specs.declared.types.Function.{Function}
-use Rattle.gimple_ir.specs.declared.types.Module.{Module}
 use Rattle.gimple_tokens.specs.Tokens.{Placed}
-use Rattle.gimple_tokens.specs.Reading.{first_of, line_of}
+use Rattle.gimple_tokens.specs.Reading.{line_of}
 use Rattle.gimple_tokens.specs.Stops.{Stuck}
-use Rattle.gimple_grammar.specs.declared.syntax.Item.{Item}
-use Rattle.gimple_grammar.specs.declared.syntax.Item.TheVariants as item
 use Rattle.gimple_grammar.specs.declared.syntax.ItemLine.{ItemLine}
 use Rattle.gimple_grammar.specs.declared.text.SyntaxFault.{SyntaxFault}
 use Rattle.gimple_grammar.specs.declared.text.SyntaxError.TheVariants as syntax_error
@@ -76,26 +73,26 @@ begun f ts all e = told-none (read_as (flat_map f) (module_text.read ts)) ∙ ap
 
 one-more : {A : Type 0} (f : ItemLine → List A) (front : List A) (i : ItemLine) (read : Result (List ItemLine × List Placed) Stuck)
     → told (front ++ f i) (read_as (flat_map f) read) ≡ told front (read_as (flat_map f) (with_item i read))
-one-more f front i (Ok x) =
-    ap (λ (ys : List _). pair ys x.1) (append_assoc front (f i) (flat_map f x.0) ∙ ap (λ ys. front ++ ys) (sym (flat_map-cons f i x.0)))
+one-more {A = A} f front i (Ok x) =
+    ap (λ (ys : List A). pair ys x.1) (append_assoc front (f i) (flat_map f x.0) ∙ ap (λ (ys : List A). front ++ ys) (sym (flat_map-cons f i x.0)))
 one-more f front i (Err s) = refl
 
 pub goes_on : {A : Type 0} (f : ItemLine → List A) (before more : Bool) (front new : List A) (ts after : List Placed) (total : Result (List A × List Placed) Stuck)
     → before ≡ true → AddsParts f (Ok more) front new ts after → going f before front ts ≡ total → going f more new after ≡ total
-goes_on f true true front new ts after total t added so_far =
-    ap (λ ys. told ys (read_as (flat_map f) (module_text.read after))) added.2
+goes_on {A = A} f true true front new ts after total t added so_far =
+    ap (λ (ys : List A). told ys (read_as (flat_map f) (module_text.read after))) added.2
     ∙ one-more f front added.0 (module_text.read after)
-    ∙ sym (ap (λ read. told front (read_as (flat_map f) read)) added.1)
+    ∙ sym (ap (λ (read : Result (List ItemLine × List Placed) Stuck). told front (read_as (flat_map f) read)) added.1)
     ∙ so_far
 goes_on {A = A} f true false front new ts after total t added so_far =
     let same : pair new [] ≡ pair (front ++ []) [] = ap (λ (ys : List A). pair ys []) (added.1 ∙ sym (append-nil front)) in
-    same ∙ sym (ap (λ read. told front (read_as (flat_map f) read)) added.0) ∙ so_far
+    same ∙ sym (ap (λ (read : Result (List ItemLine × List Placed) Stuck). told front (read_as (flat_map f) read)) added.0) ∙ so_far
 goes_on f false more front new ts after total t added so_far = absurd cc
 
 -- each turn reads an item or is the last
 pub fewer : {A : Type 0} (f : ItemLine → List A) (before more : Bool) (front new : List A) (ts after : List Placed)
     → before ≡ true → AddsParts f (Ok more) front new ts after → measure more after < measure before ts
-fewer f true true front new ts after t added = added.3
+fewer f true true front new ts after t added = omega (arith, added.3)
 fewer f true false front new ts after t added = omega arith
 fewer f false more front new ts after t added = absurd cc
 
@@ -104,7 +101,7 @@ pub breaks : {A : Type 0} (f : ItemLine → List A) (e : TextError) (before : Bo
     → before ≡ true → AddsParts f (Err e) front new ts after → going f before front ts ≡ total → GivesRead {A = List A} (Err e) total
 breaks f NoMemory before front new ts after total t added so_far = tt
 breaks f (Fault fault) true front new ts after total t added so_far =
-    (added.0, sym so_far ∙ ap (λ read. told front (read_as (flat_map f) read)) added.1, added.2, added.3)
+    (added.0, sym so_far ∙ ap (λ (read : Result (List ItemLine × List Placed) Stuck). told front (read_as (flat_map f) read)) added.1, added.2, added.3)
 breaks f (Fault fault) false front new ts after total t added so_far = absurd cc
 
 same-read : {A : Type 0} (f g : List ItemLine → A) → ((items : List ItemLine) → f items ≡ g items) → (read : Result (List ItemLine × List Placed) Stuck)
@@ -134,7 +131,7 @@ functions-all : (names : Items) (items : List ItemLine) → flat_map (function_a
 functions-all names [] = refl
 functions-all names (i ∷ items) =
     flat_map-cons (function_at names) i items
-    ∙ ap (λ fs. function_at names i ++ fs) (functions-all names items)
+    ∙ ap (λ (fs : List Function). function_at names i ++ fs) (functions-all names items)
     ∙ add-none names i (function_in i.item) (functions_in items)
 
 pub functions-are : (names : Items) (read : Result (List ItemLine × List Placed) Stuck) → read_as (flat_map (function_at names)) read ≡ read_as (functions_from names) read

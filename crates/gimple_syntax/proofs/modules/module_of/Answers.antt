@@ -1,4 +1,3 @@
-use Rattle.std.proofs.Common.{ap, subst}
 use Rattle.std.proofs.lemmas.Result.{err_from_is_err_and}
 use Rattle.gimple_syntax.specs.Items.{module_of}
 use Rattle.gimple_syntax.specs.Passes.{functions_from, items_read}

@@ -1,6 +1,5 @@
-use Rattle.std.proofs.Common.{arith, ap, ◌∙◌}
-use Rattle.gimple_syntax.specs.Items.{module_of}
-use Rattle.gimple_syntax.specs.Passes.{items_read, read_as}
+use Rattle.std.proofs.Common.{arith}
+use Rattle.gimple_syntax.specs.Passes.{items_read}
 use Rattle.gimple_syntax.proofs.Texts.{length-module_of}
 use Rattle.gimple_syntax.proofs.Outlined.{module-is, line-found, not-stuck}
 use Rattle.gimple_syntax.proofs.read.fault_in.Goals as goal

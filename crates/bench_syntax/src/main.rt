@@ -56,7 +56,9 @@ fn read_often(alloc: Global, text: &[u8], times: u32) -> Result<usize> {
 fn large_text(alloc: Global, count: u32) -> Result<String, AllocError> {
     let mut text = String::from_str(alloc, "")?;
     for number in 0..count {
-        let head = format!(in alloc; "static int f{number} (int a)\n{{\n  int x;\n  int y;\n  x = a + {number};\n")?;
+        let head = format!(in alloc;
+            "static int f{number} (int a)\n{{\n  int x;\n  int y;\n  x = a + {number};\n"
+        )?;
         text.push_str(head.as_str())?;
         for _ in 0..12 {
             text.push_str("  y = x * a;\n  x = y - x;\n")?;

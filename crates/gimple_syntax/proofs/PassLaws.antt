@@ -67,9 +67,12 @@ told-none : {A : Type 0} (read : Result (List A × List Placed) Stuck) → told 
 told-none (Ok x) = refl
 told-none (Err s) = refl
 
-pub begun : {A : Type 0} (f : ItemLine → List A) (ts all : List Placed) → ts ≡ all
-    → going f true [] ts ≡ read_as (flat_map f) (module_text.read all)
-begun f ts all e = told-none (read_as (flat_map f) (module_text.read ts)) ∙ ap (λ (us : List Placed). read_as (flat_map f) (module_text.read us)) e
+pub begun : {A : Type 0} (f : ItemLine → List A) (front : List A) (ts all : List Placed) → front ≡ [] → ts ≡ all
+    → going f true front ts ≡ read_as (flat_map f) (module_text.read all)
+begun {A = A} f front ts all none e =
+    ap (λ (ys : List A). told ys (read_as (flat_map f) (module_text.read ts))) none
+    ∙ told-none (read_as (flat_map f) (module_text.read ts))
+    ∙ ap (λ (us : List Placed). read_as (flat_map f) (module_text.read us)) e
 
 one-more : {A : Type 0} (f : ItemLine → List A) (front : List A) (i : ItemLine) (read : Result (List ItemLine × List Placed) Stuck)
     → told (front ++ f i) (read_as (flat_map f) read) ≡ told front (read_as (flat_map f) (with_item i read))

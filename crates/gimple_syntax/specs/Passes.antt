@@ -1,5 +1,5 @@
 -- What the items of a text give, where they are read one by one and each is given up before the next.
-use Rattle.std.specs.Prelude.{◌≡◌, ◌⊎◌, ◌<◌, List, [], ◌++◌, drop, length, map, Bool, true, false, Result, Ok, Err}
+use Rattle.std.specs.Prelude.{◌≡◌, ◌⊎◌, ◌<◌, ℕ, List, [], ◌∷◌, ◌++◌, drop, length, map, Bool, true, false, Result, Ok, Err}
 use Rattle.std.specs.Option.{option_map, option_to_list}
 use Rattle.gimple_ir.specs.declared.types.Function.{Function}
 use Rattle.gimple_ir.specs.declared.types.Module.{Module}

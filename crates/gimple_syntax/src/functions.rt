@@ -119,7 +119,7 @@ fn labels_in(form: &Form) -> usize
 
 fn statements_of(
     alloc: Global,
-    scope: &Scope<'_, '_>,
+    scope: &Scope<'_, '_, '_>,
     returned: ResultType,
     lines: &[Line],
 ) -> Result<List<Statement>, NoMemory>
@@ -138,7 +138,7 @@ fn statements_of(
 #[tactic(auto, unfolding(crate::specs::Items::function_of))]
 pub fn function_of<'b>(
     alloc: Global,
-    items: &Items<'b>,
+    items: &Items<'_>,
     linkage: Linkage,
     head: &'b FunctionText,
     locals: &'b [Declared],

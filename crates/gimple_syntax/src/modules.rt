@@ -70,7 +70,7 @@ fn array_in(alloc: Global, item: &Item) -> Result<Option<Array>, NoMemory>
 
 fn function_in<'b>(
     alloc: Global,
-    items: &Items<'b>,
+    items: &Items<'_>,
     item: &'b Item,
 ) -> Result<Option<Function>, NoMemory>
     ensures { IfOk result (λ found. found ≡ option_map (function_of items.now) (function_in item.now)) }
@@ -148,11 +148,7 @@ fn add_function(
 }
 
 /// The functions of a text. No more than one item stands in memory at once.
-fn functions_of(
-    alloc: Global,
-    names: &Items<'_>,
-    text: &[u8],
-) -> Result<List<Function>, TextError>
+fn functions_of(alloc: Global, names: &Items<'_>, text: &[u8]) -> Result<List<Function>, TextError>
     requires { length text.now < 2 ^ 32 - 1 }
     ensures { GivesRead result (read_as (functions_from names.now) (items_read text.now)) }
 {

@@ -27,11 +27,7 @@ fn without_body(alloc: Global, item: Item) -> Item
     }
 }
 
-fn push_outline(
-    alloc: Global,
-    next: ItemLine,
-    found: &mut List<ItemLine>,
-) -> Result<(), NoMemory>
+fn push_outline(alloc: Global, next: ItemLine, found: &mut List<ItemLine>) -> Result<(), NoMemory>
     ensures { OnOk result (found.new ≡ found.old ++ outline_of next ∷ []) }
 {
     let ItemLine { line, item } = next;

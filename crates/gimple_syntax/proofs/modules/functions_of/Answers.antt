@@ -8,7 +8,7 @@ use Rattle.gimple_syntax.proofs.PassLaws.{begun, fewer, goes_on, breaks, is_done
 use Rattle.gimple_syntax.proofs.modules.functions_of.Goals as goal
 
 pub items-init : goal.items-init
-items-init c = begun (function_at c.args.names.now) c.new-reader.result (tokens_of c.args.text.now) c.new-reader.ensures.tokens
+items-init c = begun (function_at c.args.names.now) c.new-found.result c.new-reader.result (tokens_of c.args.text.now) c.new-found.ensures c.new-reader.ensures.tokens
 
 pub items-smaller : goal.items-smaller
 items-smaller c =

@@ -7,7 +7,7 @@ use Rattle.gimple_syntax.proofs.read.checked.Goals as goal
 
 pub check_module-requires : goal.check_module-requires
 check_module-requires c =
-    let all = all_counted (items_read c.args.text.now) c.args.outlines.now c.in_ok-found.field-0 c.requires.outlined c.in_ok-found.ensures in
+    let all = all_counted (items_read c.args.text.now) c.args.outlines.now c.in_ok-found.found c.requires.outlined c.in_ok-found.ensures in
     omega (arith, all, c.requires.few)
 
 pub returns-in_err-found : goal.returns-in_err-found
@@ -16,8 +16,9 @@ returns-in_err-found c =
     rw (p.1, p.2) (unread module_of c.in_err-found.field-0.0 (items_read c.args.text.now) c.in_err-found.ensures)
 
 pub returns-in-Ok : goal.returns-in-Ok
-returns-in-Ok c = passes (items_read c.args.text.now) c.in_ok-found.field-0 c.in_ok-found.ensures c.in-Ok.ensures.ok
+returns-in-Ok c = passes (items_read c.args.text.now) c.in_ok-found.found c.in_ok-found.ensures c.in-Ok.ensures.ok
 
-pub returns-in-Err-Fault-in_ok-fault_in : goal.returns-in-Err-Fault-in_ok-fault_in
-returns-in-Err-Fault-in_ok-fault_in c =
-    inl (fails (items_read c.args.text.now) c.in_ok-found.field-0 c.in-Err-Fault.fault c.in_ok-fault_in.field-0 c.in_ok-found.ensures c.in-Err-Fault.ensures.err c.in_ok-fault_in.ensures)
+pub returns : goal.returns
+returns c =
+    let some = rw c.in-Err-Fault.field-0-is at c.in-Err-Fault.ensures.err in
+    inl (fails (items_read c.args.text.now) c.in_ok-found.found c.in-Err-Fault.fault c.in_ok-fault_in-in-Err-Fault.field-0 c.in_ok-found.ensures some c.in_ok-fault_in-in-Err-Fault.ensures)

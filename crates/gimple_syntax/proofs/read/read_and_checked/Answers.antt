@@ -5,7 +5,7 @@ use Rattle.gimple_syntax.proofs.read.read_and_checked.Goals as goal
 
 pub checked-requires-clause-few : goal.checked-requires-clause-few
 checked-requires-clause-few c =
-    few-outlines (items_read c.args.text.now) c.in_ok-outlines.field-0 (λ answer given. c.reading_laws.ensures.few answer given c.outlines_of.ensures.few) c.in_ok-outlines.ensures.given
+    rw c.as_slice.ensures (few-outlines (items_read c.args.text.now) c.in_ok-outlines.outlines (λ answer given. c.reading_laws.ensures.few answer given c.outlines_of.ensures.few) c.in_ok-outlines.ensures.given)
 
 pub returns-in_err-outlines : goal.returns-in_err-outlines
 returns-in_err-outlines c =

@@ -11,9 +11,10 @@ pub returns-then-is_end : goal.returns-then-is_end
 returns-then-is_end c = text-end c.args.reader.now (line_of c.args.reader.now) (c.is_end.ensures.last c.if-is_end.true)
 
 pub returns-in-Ok : goal.returns-in-Ok
-returns-in-Ok c =
-    (text-item c.args.reader.now c.item_line.new.reader c.in-Ok.item (sym c.is_end.ensures.value ∙ c.if-is_end.false) c.in-Ok.ensures,
-    shorter item_line item_line-sound.law c.args.reader.now c.item_line.new.reader c.in-Ok.item c.in-Ok.ensures)
+returns-in-Ok c = (
+  text-item c.args.reader.now c.item_line.new.reader c.in-Ok.item (sym c.is_end.ensures.value ∙ c.if-is_end.false) c.in-Ok.ensures,
+  shorter item_line item_line-sound.law c.args.reader.now c.item_line.new.reader c.in-Ok.item c.in-Ok.ensures,
+)
 
 pub returns-in-Err-Fault : goal.returns-in-Err-Fault
 returns-in-Err-Fault c =

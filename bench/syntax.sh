@@ -1,5 +1,6 @@
 #!/usr/bin/env bash
-# How fast the texts of generated modules are read and checked, and the peak memory of a run.
+# How fast texts are read and checked, and the peak memory of a run: first the texts of generated modules, each of fifty
+# functions, and then one text of as many functions, which is 16 MB for 20,000.
 # bench/syntax.sh [SEED [COUNT [TIMES [RUNS]]]] builds the proved program once and prints MB a second, from the fastest of
 # the runs with TIMES and with none, which other load on the machine disturbs least. It is no gate.
 set -euo pipefail
@@ -16,22 +17,25 @@ fastest() {
     for _ in $(seq "$runs"); do
         local start end
         start=$(date +%s%N)
-        "$program" "$seed" "$count" "$1" >/dev/null
+        "$program" "$1" "$count" "$2" >/dev/null
         end=$(date +%s%N)
         echo $(((end - start) / 1000))
     done | sort -n | head -n 1
 }
 
-# The peak memory of so many readings, in KiB, by GNU time.
+# The peak of resident memory of so many readings, in KB.
 peak() {
-    { /usr/bin/time -f %M "$program" "$seed" "$count" "$1" >/dev/null; } 2>&1
+    python3 -c 'import os, subprocess, sys
+child = subprocess.Popen(sys.argv[1:], stdout=subprocess.DEVNULL)
+print(os.wait4(child.pid, 0)[2].ru_maxrss)' "$program" "$1" "$count" "$2"
 }
 
-bytes=$("$program" "$seed" "$count" "$times" | sed 's/.* \([0-9]*\) bytes/\1/')
-spent=$(($(fastest "$times") - $(fastest 0)))
-awk -v bytes="$bytes" -v times="$times" -v spent="$spent" 'BEGIN {
-    printf "%d bytes %d times: %.1f ms, %.1f MB/s\n", bytes / times, times, spent / 1e3, bytes / spent
-}'
-if /usr/bin/time --version 2>&1 | grep GNU >/dev/null; then
-    echo "peak: $(peak "$times") KiB, of which $(peak 0) KiB are there without reading"
-fi
+for texts in "$seed" one; do
+    bytes=$("$program" "$texts" "$count" "$times" | sed 's/.* \([0-9]*\) bytes$/\1/')
+    none=$(fastest "$texts" 0)
+    all=$(fastest "$texts" "$times")
+    echo "$("$program" "$texts" "$count" 1):"
+    awk -v bytes="$bytes" -v times="$times" -v spent="$((all - none))" -v before="$(peak "$texts" 0)" -v with="$(peak "$texts" 1)" 'BEGIN {
+        printf "%.1f ms a reading, %.1f MB/s; peak %.1f MB, of which %.1f MB are there without reading\n", spent / times / 1e3, bytes / spent, with / 1e3, before / 1e3
+    }'
+done

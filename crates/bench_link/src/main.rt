@@ -39,7 +39,9 @@ fn text_of(alloc: Global, count: u32) -> Result<String, AllocError> {
         text.push_str("  return x;\n}\n")?;
         value = format!(in alloc; "f{number} (a)")?;
     }
-    let main = format!(in alloc; "int main ()\n{{\n  int a;\n  int x;\n  a = 3;\n  x = {value};\n  return x;\n}}\n")?;
+    let main = format!(in alloc;
+        "int main ()\n{{\n  int a;\n  int x;\n  a = 3;\n  x = {value};\n  return x;\n}}\n"
+    )?;
     text.push_str(main.as_str())?;
     Ok(text)
 }

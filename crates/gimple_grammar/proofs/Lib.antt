@@ -9,3 +9,4 @@ pub mod PieceLaws
 pub mod StatementLaws
 pub mod ItemLaws
 pub mod TextLaws
+pub mod StreamLaws

@@ -34,7 +34,8 @@ many-fuel {A = A} ends g law (suc n) (suc m) ts p q =
     let step : turn ends g n (g.read ts) ≡ turn ends g m (g.read ts) = same-turn ends g n m (g.read ts) (λ a mid e. let less : length mid < length ts = shorter g law ts mid a e in many-fuel ends g law n m mid (omega arith) (omega arith)) in
     ap (λ (x : Result (List A × List Placed) Stuck). cond (ends (head_of ts)) (Ok ([], ts)) x) step
 
-many-first : {A : Type 0} (ends : Lexeme → Bool) (g : Grammar A) → Law g → (ts mid : List Placed) (a : A) → ends (head_of ts) ≡ false → g.read ts ≡ Ok (a, mid) → (many ends g).read ts ≡ ((many ends g).read mid >>= λ more. Ok (a ∷ more.0, more.1))
+-- the first value, and then the others
+pub many-first : {A : Type 0} (ends : Lexeme → Bool) (g : Grammar A) → Law g → (ts mid : List Placed) (a : A) → ends (head_of ts) ≡ false → g.read ts ≡ Ok (a, mid) → (many ends g).read ts ≡ ((many ends g).read mid >>= λ more. Ok (a ∷ more.0, more.1))
 unfolding many_at
 many-first ends g law ts mid a other e =
     let less : length mid < length ts = shorter g law ts mid a e in

@@ -4,3 +4,4 @@ pub mod Statements
 pub mod Items
 pub mod Texts
 pub mod Adding
+pub mod Streams

@@ -14,6 +14,10 @@ use Rattle.gimple_grammar.specs.declared.text.SyntaxError.TheVariants.{Fault, No
 abbrev pub Spells : List Placed → List ItemLine → Type 0
 Spells ts items = Begins (module_text.spelling items) ts []
 
+-- what reading a text may answer
+abbrev pub Answer : Type 0
+Answer = Result (List ItemLine) SyntaxError
+
 -- What reading gives of the whole text. A fault has the kind and the line of the token at which reading stopped.
 abbrev pub GivesText : Result (List ItemLine) SyntaxError → Result (List ItemLine × List Placed) Stuck → Type 0
 GivesText (Ok items) read = read ≡ Ok (items, [])

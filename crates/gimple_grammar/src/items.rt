@@ -392,8 +392,9 @@ fn item(alloc: Global, reader: &mut Reader<'_>) -> Result<Item, Failure>
     Ok(with_linkage(Linkage::Strong, defined))
 }
 
+/// Reads an item with its line.
 #[tactic(auto, unfolding(crate::specs::Items::item_line))]
-fn item_line(alloc: Global, reader: &mut Reader<'_>) -> Result<ItemLine, Failure>
+pub(crate) fn item_line(alloc: Global, reader: &mut Reader<'_>) -> Result<ItemLine, Failure>
     ensures { GivesOr result reader.new (item_line.read reader.old) }
 {
     let line = reader.line();

@@ -2,7 +2,7 @@
 ghost use Rattle.std.specs.Prelude.{◌≡◌, ◌+◌, ◌-◌, ◌<◌, ◌≤◌, ◌^◌, List as Seq, length, IfOk};
 ghost use Rattle.gimple_tokens.specs.Tokens.{tokens_of};
 ghost use Rattle.gimple_grammar.specs.Items.{module_text};
-ghost use Rattle.gimple_grammar.specs.Texts.{GivesText, Spells, IsOrMemory, IfFault, IsFirstFault};
+ghost use Rattle.gimple_grammar.specs.Texts.{Answer, GivesText, Spells, IsOrMemory, IfFault, IsFirstFault};
 ghost use Rattle.gimple_grammar.specs.declared.syntax.ItemLine.{ItemLine as AnItem};
 
 use crate::items::more_items;
@@ -61,3 +61,12 @@ pub fn read_text(alloc: Global, text: &[u8]) -> Result<List<ItemLine>, SyntaxErr
 {
     all(alloc, text)
 }
+
+/// What is true of each answer that gives what the grammar reads of a text of at most 2^32 - 2 bytes.
+pub fn reading_laws(text: &[u8])
+    requires { length text.now < 2 ^ 32 - 1 }
+    ensures found { (answer : Answer) → GivesText answer (module_text.read (tokens_of text.now)) → IfOk answer (λ items. Spells (tokens_of text.now) items) }
+    ensures only { (answer : Answer) (items : Seq AnItem) → GivesText answer (module_text.read (tokens_of text.now)) → Spells (tokens_of text.now) items → IsOrMemory answer items }
+    ensures first { (answer : Answer) → GivesText answer (module_text.read (tokens_of text.now)) → IfFault answer (λ fault. IsFirstFault (tokens_of text.now) fault) }
+    ensures few { (answer : Answer) → GivesText answer (module_text.read (tokens_of text.now)) → length (tokens_of text.now) ≤ length text.now + 1 → IfOk answer (λ items. length items < 2 ^ 32) }
+{}

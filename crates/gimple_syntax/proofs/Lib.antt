@@ -6,3 +6,5 @@ pub mod Bodies
 pub mod StandIns
 pub mod Sorts
 pub mod Texts
+pub mod PassLaws
+pub mod Outlined

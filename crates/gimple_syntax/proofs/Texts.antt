@@ -74,7 +74,7 @@ checked-ok : (items : List ItemLine) (m : Module) → checked items ≡ Ok m →
 unfolding checked
 checked-ok items m h = by_checks items (fault_of (module_of items)) m refl h
 
-checked-again : (items : List ItemLine) (m : Module) → module_of items ≡ m → fault_of m ≡ None → checked items ≡ Ok m
+pub checked-again : (items : List ItemLine) (m : Module) → module_of items ≡ m → fault_of m ≡ None → checked items ≡ Ok m
 unfolding checked
 checked-again items m is none = ap (checked_by items) (ap fault_of is ∙ none) ∙ ap (λ x. Ok x) is
 

@@ -5,4 +5,5 @@ pub mod Layouts
 pub mod Statements
 pub mod Items
 pub mod Reading
+pub mod Passes
 pub mod Found

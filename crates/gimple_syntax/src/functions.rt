@@ -119,26 +119,26 @@ fn labels_in(form: &Form) -> usize
 
 fn statements_of(
     alloc: Global,
-    scope: &Scope<'_, '_>,
+    scope: &Scope<'_, '_, '_>,
     returned: ResultType,
     lines: &[Line],
 ) -> Result<List<Statement>, NoMemory>
     ensures { IfOk result (λ found. found ≡ statements_from scope.now returned 0 lines.now) }
 {
-    let mut found = List::new(alloc);
+    let mut found = Vec::with_capacity(alloc, lines.len())?;
     let mut labels = 0usize;
     for line in lines {
         found.push(statement_of(alloc, scope, returned, labels, &line.form)?)?;
         labels += labels_in(&line.form);
     }
-    Ok(found)
+    Ok(List::from_vec(found))
 }
 
 /// The function with this head and body. No variable has more than 8 components, so it is linear in the text's size.
 #[tactic(auto, unfolding(crate::specs::Items::function_of))]
 pub fn function_of<'b>(
     alloc: Global,
-    items: &Items<'b>,
+    items: &Items<'_>,
     linkage: Linkage,
     head: &'b FunctionText,
     locals: &'b [Declared],

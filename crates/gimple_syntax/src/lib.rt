@@ -2,8 +2,8 @@
 //!
 //! `gimple_grammar` reads the syntax. Here names become numbers, and the module is checked. In specs/, `Numbers` says what
 //! number a name has and what value a literal, `Places` what the names in a function stand for, `Statements` which
-//! statement a form is, `Items` which module the items make, and `Reading` which fault is the first; `Table` and `Layouts`
-//! say what the tables of the lookups hold.
+//! statement a form is, `Items` which module the items make, and `Reading` which fault is the first; `Passes` says what is
+//! read of a text item by item, `Table` and `Layouts` what the tables of the lookups hold.
 #![tactic(auto)]
 
 mod functions;
@@ -13,6 +13,7 @@ mod lines;
 mod literals;
 mod modules;
 mod named;
+mod outlines;
 mod read;
 mod scope;
 mod statements;

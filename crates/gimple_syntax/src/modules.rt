@@ -1,13 +1,16 @@
 //! The module that the items of a text make.
-ghost use Rattle.std.specs.Prelude.{◌≡◌, IfOk, map};
-ghost use Rattle.std.specs.Option.{option_map};
-ghost use Rattle.gimple_syntax.specs.Items.{field_of, struct_of, array_of, struct_in, array_in, function_in, structs_in, arrays_in, functions_in, function_of, module_of};
+ghost use Rattle.std.specs.Prelude.{◌≡◌, ◌<◌, ◌-◌, ◌^◌, ◌++◌, [], Ok, IfOk, OnOk, length, map};
+ghost use Rattle.std.specs.Option.{option_map, option_to_list};
+ghost use Rattle.gimple_syntax.specs.Items.{field_of, struct_of, array_of, struct_in, array_in, function_in, structs_in, arrays_in, function_of, module_of};
+ghost use Rattle.gimple_syntax.specs.Passes.{outlines_of, function_at, functions_from, items_read, read_as, GivesRead, AddsParts};
 
 use crate::functions::function_of;
 use crate::items::Items;
 use crate::literals::initial_of;
-use gimple_grammar::{ArrayText, FieldText, Item, ItemLine, StructText};
+use crate::text::{TextError, syntax_fault};
+use gimple_grammar::{ArrayText, FieldText, Item, ItemLine, StructText, SyntaxError, next_item};
 use gimple_ir::{Array, Field, Function, Linkage, List, Module, NoMemory, StructDef};
+use gimple_tokens::Reader;
 use std::alloc::Global;
 
 fn fields_of(alloc: Global, fields: &[FieldText]) -> Result<List<Field>, NoMemory>
@@ -67,7 +70,7 @@ fn array_in(alloc: Global, item: &Item) -> Result<Option<Array>, NoMemory>
 
 fn function_in<'b>(
     alloc: Global,
-    items: &Items<'b>,
+    items: &Items<'_>,
     item: &'b Item,
 ) -> Result<Option<Function>, NoMemory>
     ensures { IfOk result (λ found. found ≡ option_map (function_of items.now) (function_in item.now)) }
@@ -109,32 +112,66 @@ fn arrays_of(alloc: Global, items: &[ItemLine]) -> Result<List<Array>, NoMemory>
     Ok(found)
 }
 
-fn functions_of<'b>(
+/// Adds the function of an item, if it is one.
+fn push_function(
     alloc: Global,
-    names: &Items<'b>,
-    items: &'b [ItemLine],
-) -> Result<List<Function>, NoMemory>
-    ensures { IfOk result (λ found. found ≡ map (function_of names.now) (functions_in items.now)) }
+    names: &Items<'_>,
+    item: &Item,
+    found: &mut List<Function>,
+) -> Result<(), NoMemory>
+    ensures { OnOk result (found.new ≡ found.old ++ option_to_list (option_map (function_of names.now) (function_in item.now))) }
 {
+    if let Some(function) = function_in(alloc, names, item)? {
+        found.push(function)?;
+    }
+    Ok(())
+}
+
+/// Reads the next item, and adds its function if it is one. Whether an item was left is told.
+fn add_function(
+    alloc: Global,
+    names: &Items<'_>,
+    reader: &mut Reader<'_>,
+    found: &mut List<Function>,
+) -> Result<bool, TextError>
+    ensures { AddsParts (function_at names.now) result found.old found.new reader.old reader.new }
+{
+    match next_item(alloc, reader) {
+        Ok(None) => Ok(false),
+        Ok(Some(next)) => match push_function(alloc, names, &next.item, found) {
+            Ok(()) => Ok(true),
+            Err(_) => Err(TextError::NoMemory),
+        },
+        Err(SyntaxError::NoMemory) => Err(TextError::NoMemory),
+        Err(SyntaxError::Fault(fault)) => Err(TextError::Fault(syntax_fault(fault))),
+    }
+}
+
+/// The functions of a text. No more than one item stands in memory at once.
+fn functions_of(alloc: Global, names: &Items<'_>, text: &[u8]) -> Result<List<Function>, TextError>
+    requires { length text.now < 2 ^ 32 - 1 }
+    ensures { GivesRead result (read_as (functions_from names.now) (items_read text.now)) }
+{
+    let mut reader = Reader::new(text);
     let mut found = List::new(alloc);
-    for item in items {
-        if let Some(part) = function_in(alloc, names, &item.item)? {
-            found.push(part)?;
-        }
+    let mut more = true;
+    'items: while more {
+        more = add_function(alloc, names, &mut reader, &mut found)?;
     }
     Ok(found)
 }
 
-/// The module of the items, with a number in place of each name; one that names nothing has 2^32 - 1. The time is linear
-/// in the text, but for lookups by name, which take the logarithm of the number of names.
-#[tactic(auto, unfolding(crate::specs::Items::module_of))]
-pub fn module_of(alloc: Global, items: &[ItemLine]) -> Result<Module, NoMemory>
-    ensures { IfOk result (λ m. m ≡ module_of items.now) }
+/// The module of a text with these outlines, with a number in place of each name; one that names nothing has 2^32 - 1. The
+/// time is linear in the text, but for lookups by name, which take the logarithm of the number of names.
+pub fn module_of(alloc: Global, text: &[u8], outlines: &[ItemLine]) -> Result<Module, TextError>
+    requires short { length text.now < 2 ^ 32 - 1 }
+    requires outlined { read_as outlines_of (items_read text.now) ≡ Ok (outlines.now, []) }
+    ensures { GivesRead result (read_as module_of (items_read text.now)) }
 {
-    let names = Items::new(alloc, items)?;
-    let structs = structs_of(alloc, items)?;
-    let arrays = arrays_of(alloc, items)?;
-    let functions = functions_of(alloc, &names, items)?;
+    let names = Items::new(alloc, outlines)?;
+    let structs = structs_of(alloc, outlines)?;
+    let arrays = arrays_of(alloc, outlines)?;
+    let functions = functions_of(alloc, &names, text)?;
     Ok(Module {
         structs,
         arrays,

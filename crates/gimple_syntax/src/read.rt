@@ -1,66 +1,69 @@
 //! Reads a whole text: `specs/Reading.antt`.
-ghost use Rattle.std.specs.Prelude.{◌≡◌, ◌-◌, ◌<◌, ◌^◌, length, IfOk};
+ghost use Rattle.std.specs.Prelude.{◌≡◌, ◌-◌, ◌<◌, ◌^◌, [], Ok, length, IfOk};
 ghost use Rattle.gimple_ir.specs.declared.types.Module.{Module as AModule};
-ghost use Rattle.gimple_syntax.specs.Reading.{read_of, checked, syntax_fault, text_kind, SpellsModule, HasFault, GivesModule, IsModuleOrMemory, IfFault, Finishes};
+ghost use Rattle.gimple_syntax.specs.Items.{module_of};
+ghost use Rattle.gimple_syntax.specs.Passes.{outlines_of, items_read, read_as, GivesChecked};
+ghost use Rattle.gimple_syntax.specs.Reading.{read_of, check_fault, SpellsModule, HasFault, GivesModule, IsModuleOrMemory, IfFault};
 
 use crate::lines::check_fault;
 use crate::modules::module_of;
-use crate::text::{TextError, TextFault, TextKind};
+use crate::outlines::outlines_of;
+use crate::text::{TextError, TextFault};
 use gimple_checks::{ModuleError, check_module};
-use gimple_grammar::{ItemLine, SyntaxError, SyntaxFault, read_text};
-use gimple_ir::{List, Module};
-use std::alloc::Global;
+use gimple_grammar::{ItemLine, SyntaxError, read_text, reading_laws};
+use gimple_ir::{Module, NoMemory, TypeFault};
+use std::alloc::{AllocError, Global};
 
-fn text_kind(kind: gimple_tokens::TextKind) -> TextKind
-    ensures { result ≡ text_kind kind }
+/// A fault of the checks with its line, for which the text is read once more.
+fn fault_in(
+    alloc: Global,
+    text: &[u8],
+    source: &Module,
+    fault: TypeFault,
+) -> Result<TextFault, NoMemory>
+    requires short { length text.now < 2 ^ 32 - 1 }
+    requires read { read_as module_of (items_read text.now) ≡ Ok (source.now, []) }
+    ensures { IfOk result (λ found. read_as (λ items. check_fault items fault) (items_read text.now) ≡ Ok (found, [])) }
 {
-    match kind {
-        gimple_tokens::TextKind::Byte => TextKind::Byte,
-        gimple_tokens::TextKind::Syntax => TextKind::Syntax,
-        gimple_tokens::TextKind::Literal => TextKind::Literal,
+    match read_text(alloc, text) {
+        Ok(items) => Ok(check_fault(items.as_slice(), source, fault)),
+        Err(SyntaxError::NoMemory) => Err(AllocError),
+        Err(SyntaxError::Fault(_)) => unreachable!(),
     }
 }
 
-fn syntax_fault(fault: SyntaxFault) -> TextFault
-    ensures { result ≡ syntax_fault fault.line fault.kind }
+/// The module of the text with these outlines, if the checks find nothing in it.
+fn checked(alloc: Global, text: &[u8], outlines: &[ItemLine]) -> Result<Module, TextError>
+    requires short { length text.now < 2 ^ 32 - 1 }
+    requires outlined { read_as outlines_of (items_read text.now) ≡ Ok (outlines.now, []) }
+    requires few { length outlines.now < 2 ^ 32 }
+    ensures { GivesChecked result (items_read text.now) }
 {
-    TextFault {
-        line: fault.line,
-        kind: text_kind(fault.kind),
-    }
-}
-
-/// The module of the items, if the checks find nothing in it.
-#[tactic(auto, unfolding(crate::specs::Reading::checked))]
-fn checked(alloc: Global, items: &[ItemLine]) -> Result<Module, TextError>
-    requires { length items.now < 2 ^ 32 }
-    ensures { GivesModule result (checked items.now) }
-{
-    let Ok(found) = module_of(alloc, items) else {
-        return Err(TextError::NoMemory);
-    };
+    let found = module_of(alloc, text, outlines)?;
     match check_module(alloc, &found) {
         Ok(()) => Ok(found),
         Err(ModuleError::NoMemory) => Err(TextError::NoMemory),
-        Err(ModuleError::Fault(fault)) => Err(TextError::Fault(check_fault(items, &found, fault))),
+        Err(ModuleError::Fault(fault)) => {
+            Err(TextError::Fault(fault_in(alloc, text, &found, fault)?))
+        }
     }
 }
 
-/// What follows once the syntax is read, or is not.
-fn finished(alloc: Global, items: Result<List<ItemLine>, SyntaxError>) -> Result<Module, TextError>
-    requires { IfOk items (λ items. length items < 2 ^ 32) }
-    ensures { Finishes result items }
+fn read_and_checked(alloc: Global, text: &[u8]) -> Result<Module, TextError>
+    requires { length text.now < 2 ^ 32 - 1 }
+    ensures { GivesChecked result (items_read text.now) }
 {
-    match items {
-        Ok(items) => checked(alloc, items.as_slice()),
-        Err(SyntaxError::NoMemory) => Err(TextError::NoMemory),
-        Err(SyntaxError::Fault(fault)) => Err(TextError::Fault(syntax_fault(fault))),
-    }
+    reading_laws(text);
+    let outlines = outlines_of(alloc, text)?;
+    checked(alloc, text, outlines.as_slice())
 }
 
 /// The module that a text of at most 2^32 - 2 bytes spells, or its first fault: of bytes and syntax by place, and then of
 /// the checks. A line is 1 plus the count of newlines before the byte, the token, the text's end, or the first token of the
 /// item or statement.
+///
+/// The text is read twice, so that no more than one function's syntax stands in memory beside the module: first for the
+/// names of all items, and then for the functions.
 pub fn read_module(alloc: Global, text: &[u8]) -> Result<Module, TextError>
     requires { length text.now < 2 ^ 32 - 1 }
     // What is read is spelled so.
@@ -72,5 +75,6 @@ pub fn read_module(alloc: Global, text: &[u8]) -> Result<Module, TextError>
     // Which fault it is.
     ensures exact { GivesModule result (read_of text.now) }
 {
-    finished(alloc, read_text(alloc, text))
+    reading_laws(text);
+    read_and_checked(alloc, text)
 }

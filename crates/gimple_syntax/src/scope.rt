@@ -43,8 +43,8 @@ fn lay_out(alloc: Global, items: &Items<'_>, variables: &[&Declared]) -> Result<
 
 /// The names that a function's statements may use.
 #[derive(Drop)]
-pub struct Scope<'s, 'a> {
-    items: &'s Items<'a>,
+pub struct Scope<'s, 'i, 'a> {
+    items: &'s Items<'i>,
     variables: Vec<&'a Declared>,
     variable_numbers: NameTable<'a>,
     firsts: Vec<u32>,
@@ -52,7 +52,7 @@ pub struct Scope<'s, 'a> {
     labels: NameTable<'a>,
 }
 
-impl<'s, 'a> Model for Scope<'s, 'a> {
+impl<'s, 'i, 'a> Model for Scope<'s, 'i, 'a> {
     ghost use Rattle.std.specs.Prelude.{map};
     ghost use Rattle.gimple_syntax.specs.Places.{Names};
     ghost use Rattle.gimple_syntax.specs.Items.{names_of};
@@ -65,14 +65,14 @@ impl<'s, 'a> Model for Scope<'s, 'a> {
     ghost invariant = { λ s. IsLaidOut (names_of s.items.now (map (λ d. d.now) s.variables.items) s.labels) s.variable_numbers s.firsts.items s.types.items };
 }
 
-impl<'s, 'a> Scope<'s, 'a> {
+impl<'s, 'i, 'a> Scope<'s, 'i, 'a> {
     /// The names in a function with these variables, parameters first, and these labels.
     pub fn new(
         alloc: Global,
-        items: &'s Items<'a>,
+        items: &'s Items<'i>,
         variables: Vec<&'a Declared>,
         labels: Vec<&'a str>,
-    ) -> Result<Scope<'s, 'a>, NoMemory>
+    ) -> Result<Scope<'s, 'i, 'a>, NoMemory>
         ensures { IfOk result (λ scope. scope ≡ names_of items.now (map (λ d. d.now) variables.entry.items) (map (λ l. l.now) labels.entry.items)) }
     {
         let variable_numbers = table_of(alloc, variables.as_slice())?;

@@ -3,12 +3,15 @@ ghost use Rattle.std.specs.Prelude.{◌≡◌, IfOk};
 ghost use Rattle.gimple_ir.specs.Programs.{IsIdentifier};
 
 use gimple_ir::{Name, NoMemory};
+use smallvec::SmallVec;
+use std::alloc::Global;
 use std::marker::Model;
 
-/// A name of 1 to 255 letters, digits and underscores that does not begin with a digit and is no keyword.
+/// A name of 1 to 255 letters, digits and underscores that does not begin with a digit and is no keyword. One of up to 16
+/// bytes takes no memory of its own.
 #[derive(Debug, Drop)]
 pub struct Identifier {
-    name: Name,
+    bytes: SmallVec<u8, 16, Global>,
 }
 
 impl Model for Identifier {
@@ -17,17 +20,36 @@ impl Model for Identifier {
 
     ghost Value = { List ℕ };
 
-    ghost view = { λ identifier. identifier.name };
+    ghost view = { λ identifier. identifier.bytes.items };
 
-    ghost invariant = { λ identifier. IsIdentifier identifier.name };
+    ghost invariant = { λ identifier. IsIdentifier identifier.bytes.items };
+}
+
+fn as_text(bytes: &[u8]) -> &str
+    requires { IsIdentifier bytes.now }
+    ensures { result.now ≡ bytes.now }
+{
+    str::from_utf8(bytes).unwrap()
+}
+
+fn name_of(alloc: Global, bytes: &[u8]) -> Result<Name, NoMemory>
+    requires { IsIdentifier bytes.now }
+    ensures { IfOk result (λ name. name ≡ bytes.now) }
+{
+    match Name::read(alloc, bytes)? {
+        Some(name) => Ok(name),
+        None => unreachable!(),
+    }
 }
 
 impl Identifier {
-    pub(crate) fn of(name: Name) -> Identifier
-        requires { IsIdentifier name }
-        ensures { result ≡ name }
+    pub(crate) fn from_bytes(alloc: Global, bytes: &[u8]) -> Result<Identifier, NoMemory>
+        requires { IsIdentifier bytes.now }
+        ensures { IfOk result (λ identifier. identifier ≡ bytes.now) }
     {
-        Identifier { name }
+        Ok(Identifier {
+            bytes: SmallVec::from_slice(alloc, bytes)?,
+        })
     }
 
     /// The bytes, in order.
@@ -35,7 +57,7 @@ impl Identifier {
         ensures value { result.now ≡ self.now }
         ensures identifier { IsIdentifier self.now }
     {
-        self.name.as_slice()
+        self.bytes.as_slice()
     }
 
     /// The bytes as text; they are ASCII.
@@ -43,23 +65,14 @@ impl Identifier {
         ensures value { result.now ≡ self.now }
         ensures identifier { IsIdentifier self.now }
     {
-        self.name.as_str()
+        as_text(self.bytes.as_slice())
     }
 
     /// The identifier as a name.
-    pub fn into_name(self) -> Name
-        ensures value { result ≡ self }
-        ensures identifier { IsIdentifier result }
-    {
-        let Identifier { name } = self;
-        name
-    }
-
-    /// An equal name.
     pub fn copy(&self) -> Result<Name, NoMemory>
         ensures value { IfOk result (λ name. name ≡ self.now) }
         ensures identifier { IfOk result IsIdentifier }
     {
-        self.name.copy()
+        name_of(*self.bytes.allocator(), self.bytes.as_slice())
     }
 }

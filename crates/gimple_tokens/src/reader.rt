@@ -198,13 +198,11 @@ impl<'a> Reader<'a> {
         ensures { GivesOr result self.new (single_at name_in fault_at self.old) }
     {
         match self.token {
-            Token::Name(text) => match gimple_ir::Name::read(alloc, text)? {
-                Some(name) => {
-                    self.advance();
-                    Ok(Identifier::of(name))
-                }
-                None => unreachable!(),
-            },
+            Token::Name(text) => {
+                let name = Identifier::from_bytes(alloc, text)?;
+                self.advance();
+                Ok(name)
+            }
             _ => Err(Failure::Fault(self.fault())),
         }
     }

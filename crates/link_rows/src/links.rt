@@ -6,6 +6,7 @@ ghost use Rattle.symbol_resolution.specs.Merging.{AreFew};
 use gimple_ir::{Merged, Module, Name, NoMemory, Program};
 use gimple_syntax::read_module;
 use lto_object::{Object, lgen, read_object};
+use plain_link::link_one;
 use std::alloc::Global;
 use std::test::Fail;
 use symbol_resolution::{
@@ -119,6 +120,18 @@ pub fn merged_alone(alloc: Global, texts: &[&str]) -> Result<Answer, Fail> {
         Err(error) => Ok(Answer::Fault(error)),
         Ok(resolution) => Ok(merged(alloc, &objects, &names, &resolution)?),
     }
+}
+
+/// The image of the texts under their own resolution.
+pub fn linked_alone(alloc: Global, texts: &[&str]) -> Result<Vec<u8>, Fail> {
+    let files = files_of(alloc, texts)?;
+    let objects = objects_of(alloc, &files)?;
+    let names = names_of(alloc, objects.len())?;
+    if names.len() != objects.len() {
+        return Err("too many files".into());
+    }
+    let resolution = resolve(alloc, &objects, &names)?;
+    Ok(link_one(alloc, &objects, &names, &resolution)?)
 }
 
 /// The text of the texts' own resolution; it is empty where there is none.

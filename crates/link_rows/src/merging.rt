@@ -68,7 +68,9 @@ fn name_faults(rt: HostRuntime) -> Result<(), Fail> {
         (FIRST, long, "PREVAILING_DEF", ResolutionKind::TypeMismatch),
     ];
     for (first, second, word, kind) in rows {
-        let text = format!(in rt.alloc(); "2\na.o 2\n0 1 RESOLVED_IR f\n1 1 PREVAILING_DEF main\nb.o 1\n0 2 {word} f\n")?;
+        let text = format!(in rt.alloc();
+            "2\na.o 2\n0 1 RESOLVED_IR f\n1 1 PREVAILING_DEF main\nb.o 1\n0 2 {word} f\n"
+        )?;
         let answer = merged_under(rt.alloc(), &[first, second], text.as_str())?;
         assert!(rt; is_at_name(&answer, kind, "f"), "{text}");
     }
@@ -84,11 +86,13 @@ fn name_faults(rt: HostRuntime) -> Result<(), Fail> {
 /// A preempted definition is compared too, a struct of one field and a scalar match, and two fields are no two parameters.
 #[test]
 fn types_of_symbols(rt: HostRuntime) -> Result<(), Fail> {
-    let one = "struct s { int a; }; int f (struct s x) { int y; y = x.a; return y; } int main () { return 0; }";
+    let one =
+        "struct s { int a; }; int f (struct s x) { int y; y = x.a; return y; } int main () { return 0; }";
     let two = "struct t { int a; int b; }; weak int f (struct t x) { int y; y = x.a; return y; }";
     let weak = "weak int f (int a) { return a; }";
     let split = "weak int f (int a, int b) { return a; }";
-    let both = "struct t { int a; int b; }; int f (struct t x) { int y; y = x.a; return y; } int main () { return 0; }";
+    let both =
+        "struct t { int a; int b; }; int f (struct t x) { int y; y = x.a; return y; } int main () { return 0; }";
     let rows = [
         (one, weak, true),
         (one, two, false),
@@ -116,7 +120,10 @@ fn no_main(rt: HostRuntime) -> Result<(), Fail> {
     ];
     for text in rows {
         let answer = merged_alone(rt.alloc(), &[text])?;
-        assert!(rt; is_at_name(&answer, ResolutionKind::NoMain, "main"), "{text}");
+        assert!(rt;
+            is_at_name(&answer, ResolutionKind::NoMain, "main"),
+            "{text}"
+        );
     }
     Ok(())
 }

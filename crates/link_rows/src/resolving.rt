@@ -40,7 +40,10 @@ fn strong_before_weak(rt: HostRuntime) -> Result<(), Fail> {
 #[test]
 fn first_faulty_name_is_told(rt: HostRuntime) -> Result<(), Fail> {
     let uses = "extern int g (); int main () { int x; x = g (); return x; } int f () { return 1; }";
-    let doubled = merged_alone(rt.alloc(), &[uses, "int f () { return 2; } int g () { return 2; }"])?;
+    let doubled = merged_alone(
+        rt.alloc(),
+        &[uses, "int f () { return 2; } int g () { return 2; }"],
+    )?;
     assert!(rt; is_at_name(&doubled, ResolutionKind::TwoPrevailing, "f"));
     let missing = merged_alone(rt.alloc(), &[uses, "int f () { return 2; }"])?;
     assert!(rt; is_at_name(&missing, ResolutionKind::NoPrevailing, "g"));

@@ -58,7 +58,6 @@ fn reader_answers(rt: HostRuntime) -> Result<(), Fail> {
     assert_eq!(rt; name.as_str(), "x1");
     assert_eq!(rt; name.as_slice(), b"x1".as_slice());
     assert_eq!(rt; name.copy()?.as_str(), "x1");
-    assert_eq!(rt; name.into_name().as_str(), "x1");
     assert_eq!(rt; reader.operator()?, BinaryOp::Shr);
     assert_eq!(rt; reader.number_at(NumberPlace::Literal, false)?.0, 5);
     assert_eq!(rt; reader.array_length()?, 7);

@@ -1,6 +1,6 @@
 -- What a command came to: one lemma where it is refused, where its files are written, and where a write is cut short.
 use Rattle.std.proofs.Common.{◌≡◌, ◌≢◌, ℕ, List, [], ◌∷◌, ◌⊎◌, Option, Some, None, Result, Ok, Err, refl, sym, ◌∙◌, ap, inl, inr, arith, ◌≤◌, length, subst}
-use Rattle.std.specs.Prelude.{IfSome, IsTrue, ◌++◌, codes, decimal}
+use Rattle.std.specs.Prelude.{IfSome, IsTrue, nat_le, sum_by, ◌^◌, true, false, ◌++◌, codes, decimal}
 use Rattle.outer_files.specs.Outside.{Contents, WhereTold, Writes, WritesPrefix, Rose, IsLonger}
 use Rattle.gimple_ir.specs.declared.types.Module.{Module}
 use Rattle.gimple_syntax.specs.declared.text.TextFault.{TextFault}
@@ -20,8 +20,8 @@ use Rattle.symbol_resolution.specs.Resolving.{resolve_of}
 use Rattle.symbol_resolution.specs.Merging.{merged_of, program_of}
 use Rattle.link_laws.specs.Laws.{LinkedLoads, LinkedFollows}
 use Rattle.whopr_top.specs.Reads.{reads_of, AreHeld, IsOverLimit}
-use Rattle.whopr_top.specs.Lines.{line, text_line, object_line, outcome_line, limit_line}
-use Rattle.whopr_top.specs.Judgements.{File, Judgement, Refuses, Gives, Judges, JudgesImage, JudgesMerged, JudgesResolved, JudgesLink, JudgesText, lgen_by, show_by, run_by, data_of, objects_from, unresolved, resolve_by}
+use Rattle.whopr_top.specs.Lines.{line, text_line, object_line, outcome_line, limit_line, batch_bytes_line}
+use Rattle.whopr_top.specs.Judgements.{File, Judgement, Refuses, Gives, Judges, JudgesImage, JudgesMerged, JudgesResolved, JudgesLink, JudgesText, lgen_by, show_by, run_by, data_of, objects_from, unresolved, resolve_by, within_batch}
 use Rattle.whopr_top.specs.Compiling.{IsCompiled}
 use Rattle.whopr_top.specs.Outputs.{IsJudged, IsRefused, IsDone, IsCutShort, WritesAll, CutsShort, Faithful, IsFaithful, Refused, IsTooLarge, IsValid}
 use Rattle.whopr_top.specs.Answers.{Exactly, IsLimitLine, file_bytes_line, is_status, is_early}
@@ -80,7 +80,7 @@ alike (Cc input output) (text ∷ []) a b h k = text_alike input output (read_of
 alike (Lgen input output) (text ∷ []) a b h k = alike_to a b (lgen_by output (read_of text)) h k
 alike (Show object) (bytes ∷ []) a b h k = alike_to a b (show_by (read_object_of bytes)) h k
 alike (Run image steps input output) (bytes ∷ given ∷ []) a b h k = alike_to a b (run_by output (load_fault_of bytes) (run_of bytes given steps)) h k
-alike (Resolve output objects) contents a b h k = alike_to a b (resolve_by output objects (objects_from 0 contents)) h k
+alike (Resolve output objects) contents a b h k = alike_to a b (within_batch contents (resolve_by output objects (objects_from 0 contents))) h k
 alike command contents a b h k = absurd h
 
 -- the same of what is held
@@ -331,6 +331,12 @@ run_gives output bytes given written text steps none is says = rw (none, is, say
 pub resolve_gives : (output : List ℕ) (names : List (List ℕ)) (found : Result (List ObjectData) (ℕ × ObjectFault)) (text printed : List ℕ)
     → Gives ((output, text) ∷ []) [] ≡ resolve_by output names found → printed ≡ [] → Gives ((output, text) ∷ []) printed ≡ resolve_by output names found
 resolve_gives output names found text printed h none = rw none h
+
+pub small : (contents : List (List ℕ)) (a b : Judgement) → nat_le (sum_by length contents) (2 ^ 28) ≡ true → a ≡ b → a ≡ within_batch contents b
+small contents a b within h = rw within h
+
+pub large : (contents : List (List ℕ)) (b : Judgement) → nat_le (sum_by length contents) (2 ^ 28) ≡ false → Refuses 4 batch_bytes_line ≡ within_batch contents b
+large contents b over = rw over refl
 
 -- ---- words that are no command
 

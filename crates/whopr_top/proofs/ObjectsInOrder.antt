@@ -1,7 +1,10 @@
 -- Objects that are read one after the other, up to the first that has a fault.
-use Rattle.std.proofs.Common.{◌≡◌, ℕ, ◌+◌, ◌<◌, List, [], ◌∷◌, ◌++◌, Result, Ok, Err, refl, sym, ◌∙◌, ap, length, drop, get_or, Vec}
+use Rattle.std.proofs.Common.{◌≡◌, ℕ, ◌+◌, ◌<◌, List, [], ◌∷◌, ◌++◌, Result, Ok, Err, refl, sym, ◌∙◌, ap, length, drop, get_or, Vec, false, ◌-◌, ◌≤◌, arith}
 use Rattle.std.specs.declared.alloc.Global.{Global}
 use Rattle.std.proofs.lemmas.List.{append_assoc, at_drop_more}
+use Rattle.std.proofs.lemmas.List.Sums.{sum_by-cons}
+use Rattle.std.proofs.lemmas.Bool.Decides.{nat_tests}
+use Rattle.std.specs.Prelude.{Bool, nat_le, sum_by}
 use Rattle.gimple_ir.specs.declared.types.Module.{Module}
 use Rattle.lto_object.specs.declared.fault.ObjectFault.{ObjectFault}
 use Rattle.lto_object.specs.Objects.{ObjectData, IsObject}
@@ -46,3 +49,25 @@ object_refused done n cs c fault whole lt is read h =
     sym h
     ∙ ap (after_these done) (next_of n cs c lt is)
     ∙ ap (λ r. after_these done (object_before n r (objects_from (n + 1) (contents_of (drop (n + 1) cs))))) read
+
+-- ---- how large files are together
+
+sum_next : (n : ℕ) (cs : List (Vec ℕ Global)) (c : Vec ℕ Global) → n < length cs → c ≡ get_or cs n c
+    → sum_by length (contents_of (drop n cs)) ≡ length c.items + sum_by length (contents_of (drop (n + 1) cs))
+sum_next n cs c lt is = at_drop_more (λ rest. sum_by length (contents_of rest)) cs n c lt ∙ rw (← is) (sum_by-cons length c.items (contents_of (drop (n + 1) cs)))
+
+le_less : (size more left : ℕ) → size ≤ left → nat_le (size + more) left ≡ nat_le more (left - size)
+le_less size more left fits = grind (arith, nat_tests, fits)
+
+le_over : (size more left : ℕ) → left < size → nat_le (size + more) left ≡ false
+le_over size more left over = grind (arith, nat_tests, over)
+
+pub size_taken : (n left : ℕ) (cs : List (Vec ℕ Global)) (c : Vec ℕ Global) (whole : Bool) → n < length cs → c ≡ get_or cs n c → length c.items ≤ left
+    → nat_le (sum_by length (contents_of (drop n cs))) left ≡ whole → nat_le (sum_by length (contents_of (drop (n + 1) cs))) (left - length c.items) ≡ whole
+size_taken n left cs c whole lt is fits h =
+    sym (le_less (length c.items) (sum_by length (contents_of (drop (n + 1) cs))) left fits) ∙ ap (λ s. nat_le s left) (sym (sum_next n cs c lt is)) ∙ h
+
+pub size_over : (n left : ℕ) (cs : List (Vec ℕ Global)) (c : Vec ℕ Global) (whole : Bool) → n < length cs → c ≡ get_or cs n c → left < length c.items
+    → nat_le (sum_by length (contents_of (drop n cs))) left ≡ whole → whole ≡ false
+size_over n left cs c whole lt is over h =
+    sym h ∙ ap (λ s. nat_le s left) (sum_next n cs c lt is) ∙ le_over (length c.items) (sum_by length (contents_of (drop (n + 1) cs))) left over

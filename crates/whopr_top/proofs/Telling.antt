@@ -9,7 +9,7 @@ use Rattle.whopr_top.specs.Answers.{Exactly, lines_of, IsQuiet, CanBeSilent, IsL
 use Rattle.whopr_top.specs.Attempts.{Lined, Judged}
 use Rattle.whopr_top.specs.Refusal.{Reports, Tells, refusal_line, status_of}
 use Rattle.whopr_top.specs.declared.refusal.Refusal.{Refusal}
-use Rattle.whopr_top.specs.declared.refusal.Refusal.TheVariants.{NoCommand, Object, TooLong, Limit, Read, Write, Memory, Resolution, Text, Image}
+use Rattle.whopr_top.specs.declared.refusal.Refusal.TheVariants.{NoCommand, Object, TooLong, TooMuch, Limit, Read, Write, Memory, Resolution, Text, Image}
 
 line_is : (limit : ℕ) (held new : Option Contents) (command : Option Spoken) (before now status : ℕ) (text : List ℕ) → Lined limit command held status text
     → Judged limit command held new before now status text → IsLine limit held command status text
@@ -57,6 +57,7 @@ pub not_done : (refusal : Refusal) → status_of refusal ≢ 0
 not_done NoCommand = λ is. grind (arith, is)
 not_done (Object number fault) = λ is. grind (arith, is)
 not_done TooLong = λ is. grind (arith, is)
+not_done TooMuch = λ is. grind (arith, is)
 not_done (Limit passed) = λ is. grind (arith, is)
 not_done (Read name) = λ is. grind (arith, is)
 not_done (Write name) = λ is. grind (arith, is)
@@ -76,6 +77,7 @@ pub refusal_is_some : (refusal : Refusal) → refusal_line refusal ≢ []
 refusal_is_some NoCommand = line_is_some (codes "2 words")
 refusal_is_some (Object number fault) = line_is_some (((codes "3 object " ++ (decimal number ++ codes " ")) ++ object_word fault) ++ object_place fault)
 refusal_is_some TooLong = line_is_some (codes "4 limit FileBytes 16777217 16777216")
+refusal_is_some TooMuch = line_is_some (codes "4 limit BatchBytes 268435457 268435456")
 refusal_is_some (Limit passed) = line_is_some (((codes "4 limit " ++ quantity_word passed.quantity) ++ spaced (decimal passed.number)) ++ spaced (decimal passed.limit))
 refusal_is_some (Read name) = line_is_some (codes "5 read " ++ name.now)
 refusal_is_some (Write name) = line_is_some (codes "6 write " ++ name.now)

@@ -9,7 +9,7 @@ use Rattle.resolution_text.specs.declared.fault.ResolutionKind.{ResolutionKind}
 use Rattle.whopr_top.specs.declared.refusal.ResolutionPlace.{ResolutionPlace}
 use Rattle.whopr_words.specs.Commands.{Spoken, Cc, Lgen, Show, Resolve}
 use Rattle.whopr_top.specs.Reads.{reads_of, MayWrite, IsOverLimit, IsReached}
-use Rattle.whopr_top.specs.Lines.{line, text_line, object_line, limit_line, resolution_line}
+use Rattle.whopr_top.specs.Lines.{line, text_line, object_line, limit_line, resolution_line, batch_bytes_line}
 use Rattle.whopr_top.specs.Judgements.{File}
 use Rattle.whopr_top.specs.Outputs.{IsJudged, IsRefused}
 
@@ -53,7 +53,7 @@ CanBeSilent command = ⊥
 abbrev pub file_bytes_line : List ℕ
 file_bytes_line = line (codes "4 limit FileBytes 16777217 16777216")
 
--- the line of what is too large, by what the command reads: a file, or the program
+-- the line of what is too large, by what the command reads: a file, the objects together, or the program
 abbrev pub IsLimitLine : ℕ → Contents → Spoken → List ℕ → Type 0
 IsLimitLine limit held command text = (IsOverLimit limit held (reads_of command) × (text ≡ file_bytes_line)) ⊎ IsRefused limit command held 4 text
 
@@ -64,7 +64,7 @@ pub record IsLine (limit : ℕ) (held : Option Contents) (command : Option Spoke
   pub silent : status ≡ 0 → text ≡ [] → CanBeSilent command
   pub words : status ≡ 2 → text ≡ line (codes "2 words")
   pub object : status ≡ 3 → (number : ℕ) × (fault : ObjectFault) × (text ≡ object_line number fault)
-  pub over : status ≡ 4 → (text ≡ file_bytes_line) ⊎ ((passed : LimitFault) × (text ≡ limit_line passed))
+  pub over : status ≡ 4 → (text ≡ file_bytes_line) ⊎ (text ≡ batch_bytes_line) ⊎ ((passed : LimitFault) × (text ≡ limit_line passed))
   pub limited : status ≡ 4 → IfSome held (λ files. IsSomeAnd command (λ c. IsLimitLine limit files c text))
   pub read : status ≡ 5 → IsSomeAnd command (λ c. (name : List ℕ) × IfSome held (λ files. IsReached limit files (reads_of c) name) × (text ≡ line (codes "5 read " ++ name)))
   pub write : status ≡ 6 → IsSomeAnd command (λ c. (name : List ℕ) × MayWrite c name × (text ≡ line (codes "6 write " ++ name)))

@@ -9,7 +9,7 @@ use Rattle.resolution_text.specs.declared.fault.ResolutionKind.{ResolutionKind}
 use Rattle.whopr_top.specs.declared.refusal.ResolutionPlace.{ResolutionPlace}
 use Rattle.whopr_words.specs.Commands.{Spoken}
 use Rattle.whopr_top.specs.Reads.{reads_of, MayWrite, IsAbsent, IsReached}
-use Rattle.whopr_top.specs.Lines.{line, text_line, object_line, limit_line, resolution_line}
+use Rattle.whopr_top.specs.Lines.{line, text_line, object_line, limit_line, resolution_line, batch_bytes_line}
 use Rattle.whopr_top.specs.Judgements.{File}
 use Rattle.whopr_top.specs.Outputs.{IsJudged, IsRefused, Done, Faithful, CutShort, Refused, IsTooLarge, IsValid}
 use Rattle.whopr_top.specs.Answers.{Exactly, is_status, is_early, is_judged, lines_of, IsQuiet, CanBeSilent, file_bytes_line, IsLimitLine}
@@ -34,7 +34,7 @@ pub record Lined (limit : ℕ) (command : Option Spoken) (old : Option Contents)
   pub silent : status ≡ 0 → text ≡ [] → CanBeSilent command
   pub words : status ≡ 2 → text ≡ line (codes "2 words")
   pub object : status ≡ 3 → (number : ℕ) × (fault : ObjectFault) × (text ≡ object_line number fault)
-  pub over : status ≡ 4 → (text ≡ file_bytes_line) ⊎ ((passed : LimitFault) × (text ≡ limit_line passed))
+  pub over : status ≡ 4 → (text ≡ file_bytes_line) ⊎ (text ≡ batch_bytes_line) ⊎ ((passed : LimitFault) × (text ≡ limit_line passed))
   pub read : status ≡ 5 → IsSomeAnd command (λ c. (name : List ℕ) × IfSome old (λ files. IsReached limit files (reads_of c) name) × (text ≡ line (codes "5 read " ++ name)))
   pub write : status ≡ 6 → IsSomeAnd command (λ c. (name : List ℕ) × MayWrite c name × (text ≡ line (codes "6 write " ++ name)))
   pub memory : status ≡ 7 → text ≡ line (codes "7 memory")

@@ -1,5 +1,5 @@
 -- What a command comes to by the bytes of the files that it reads, every fault of the outside set aside: a case a command.
-use Rattle.std.specs.Prelude.{◌≡◌, ℕ, ◌+◌, map, List, [], ◌∷◌, ◌++◌, Option, None, Some, Result, Ok, Err, codes, decimal}
+use Rattle.std.specs.Prelude.{◌≡◌, ℕ, ◌+◌, map, List, [], ◌∷◌, ◌++◌, ◌^◌, length, nat_le, sum_by, if◌then◌else◌, Option, None, Some, Result, Ok, Err, codes, decimal}
 use Rattle.gimple_ir.specs.declared.types.Module.{Module}
 use Rattle.gimple_ir.specs.declared.merged.Merged.{Merged}
 use Rattle.gimple_syntax.specs.declared.text.TextFault.{TextFault}
@@ -23,7 +23,7 @@ use Rattle.symbol_resolution.specs.Resolving.{resolve_of}
 use Rattle.symbol_resolution.specs.Merging.{merged_of, program_of}
 use Rattle.whopr_words.specs.Commands.{Spoken, Cc, Lgen, Show, Run, Resolve}
 use Rattle.whopr_top.specs.declared.refusal.ResolutionPlace.TheVariants.{AtLine, AtName}
-use Rattle.whopr_top.specs.Lines.{line, outcome_line, text_line, object_line, limit_line, resolution_line}
+use Rattle.whopr_top.specs.Lines.{line, outcome_line, text_line, object_line, limit_line, resolution_line, batch_bytes_line}
 
 -- a file that is written: its name and its bytes
 abbrev pub File : Type 0
@@ -77,6 +77,10 @@ abbrev pub resolution_by : List ℕ → Result Resolution ResolutionError → Ju
 resolution_by output (Ok resolution) = Gives ((output, resolution_text resolution) ∷ []) []
 resolution_by output (Err fault) = unresolved fault
 
+-- the files have at most 256 MiB together, or the command is refused
+abbrev pub within_batch : List (List ℕ) → Judgement → Judgement
+within_batch contents judgement = if nat_le (sum_by length contents) (2 ^ 28) then judgement else Refuses 4 batch_bytes_line
+
 -- `resolve`: the text of the resolution of the objects, under the names of their files
 abbrev pub resolve_by : List ℕ → List (List ℕ) → Result (List ObjectData) (ℕ × ObjectFault) → Judgement
 resolve_by output names (Ok objects) = resolution_by output (resolve_of objects names)
@@ -116,5 +120,5 @@ Judges (Cc input output) (text ∷ []) judgement = JudgesText input output (read
 Judges (Lgen input output) (text ∷ []) judgement = judgement ≡ lgen_by output (read_of text)
 Judges (Show object) (bytes ∷ []) judgement = judgement ≡ show_by (read_object_of bytes)
 Judges (Run image steps input output) (bytes ∷ given ∷ []) judgement = judgement ≡ run_by output (load_fault_of bytes) (run_of bytes given steps)
-Judges (Resolve output objects) contents judgement = judgement ≡ resolve_by output objects (objects_from 0 contents)
+Judges (Resolve output objects) contents judgement = judgement ≡ within_batch contents (resolve_by output objects (objects_from 0 contents))
 Judges command contents judgement = ⊥

@@ -121,3 +121,7 @@ resolution_place (AtName name) = name
 -- the line of a resolution's fault
 abbrev pub resolution_line : ResolutionKind → ResolutionPlace → List ℕ
 resolution_line kind place = line ((codes "8 resolution " ++ resolution_word kind) ++ spaced (resolution_place place))
+
+-- the line of objects that are too large together
+abbrev pub batch_bytes_line : List ℕ
+batch_bytes_line = line (codes "4 limit BatchBytes 268435457 268435456")

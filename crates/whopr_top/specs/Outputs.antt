@@ -84,7 +84,7 @@ pub record IsRefused (limit : ℕ) (command : Spoken) (held : Contents) (status 
 abbrev pub Refused : ℕ → ℕ → Contents → Option Spoken → Type 0
 Refused status limit held command = IsSomeAnd command (λ c. (text : List ℕ) × IsRefused limit c held status text)
 
--- a file that is read is too long, or the program passes a limit
+-- a file that is read is too long, or the objects are too large together, or the program passes a limit
 abbrev pub IsTooLarge : ℕ → Contents → Option Spoken → Type 0
 IsTooLarge limit held command = IsSomeAnd command (λ c. IsOverLimit limit held (reads_of c)) ⊎ Refused 4 limit held command
 

@@ -3,14 +3,15 @@ use Rattle.std.specs.Prelude.{◌≡◌, ◌⊎◌, ℕ, List, [], ◌∷◌, �
 use Rattle.std.specs.declared.alloc.Global.{Global}
 use Rattle.outer_files.specs.Outside.{Known}
 use Rattle.whopr_top.specs.declared.refusal.Refusal.{Refusal}
-use Rattle.whopr_top.specs.declared.refusal.Refusal.TheVariants.{NoCommand, Object, TooLong, Limit, Read, Write, Memory, Resolution, Text, Image}
-use Rattle.whopr_top.specs.Lines.{line, text_line, object_line, limit_line, resolution_line}
+use Rattle.whopr_top.specs.declared.refusal.Refusal.TheVariants.{NoCommand, Object, TooLong, TooMuch, Limit, Read, Write, Memory, Resolution, Text, Image}
+use Rattle.whopr_top.specs.Lines.{line, text_line, object_line, limit_line, resolution_line, batch_bytes_line}
 use Rattle.whopr_top.specs.Answers.{file_bytes_line, Puts}
 
 abbrev pub status_of : Refusal → ℕ
 status_of NoCommand = 2
 status_of (Object number fault) = 3
 status_of TooLong = 4
+status_of TooMuch = 4
 status_of (Limit passed) = 4
 status_of (Read name) = 5
 status_of (Write name) = 6
@@ -23,6 +24,7 @@ abbrev pub refusal_line : Refusal → List ℕ
 refusal_line NoCommand = line (codes "2 words")
 refusal_line (Object number fault) = object_line number fault
 refusal_line TooLong = file_bytes_line
+refusal_line TooMuch = batch_bytes_line
 refusal_line (Limit passed) = limit_line passed
 refusal_line (Read name) = line (codes "5 read " ++ name.now)
 refusal_line (Write name) = line (codes "6 write " ++ name.now)

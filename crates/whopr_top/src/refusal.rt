@@ -28,6 +28,8 @@ pub enum Refusal<'a> {
     Object(usize, ObjectFault),
     /// 4: a file that is read is longer than 16 MiB.
     TooLong,
+    /// 4: the objects have more than 256 MiB together.
+    TooMuch,
     /// 4: the program passes a limit; the first.
     Limit(LimitFault),
     /// 5: this file could not be read.
@@ -52,7 +54,7 @@ impl Refusal<'_> {
         match self {
             Refusal::NoCommand => 2,
             Refusal::Object(_, _) => 3,
-            Refusal::TooLong | Refusal::Limit(_) => 4,
+            Refusal::TooLong | Refusal::TooMuch | Refusal::Limit(_) => 4,
             Refusal::Read(_) => 5,
             Refusal::Write(_) => 6,
             Refusal::Memory => 7,
@@ -71,6 +73,7 @@ pub fn refusal_line(alloc: Global, refusal: Refusal<'_>) -> Result<String, Alloc
         Refusal::NoCommand => format!(in alloc; "2 words\n"),
         Refusal::Object(number, fault) => object_line(alloc, number, &fault),
         Refusal::TooLong => format!(in alloc; "4 limit FileBytes 16777217 16777216\n"),
+        Refusal::TooMuch => format!(in alloc; "4 limit BatchBytes 268435457 268435456\n"),
         Refusal::Limit(passed) => limit_line(alloc, passed),
         Refusal::Read(name) => format!(in alloc; "5 read {name}\n"),
         Refusal::Write(name) => format!(in alloc; "6 write {name}\n"),

@@ -1,5 +1,5 @@
 // The resolution of objects.
-ghost use Rattle.std.specs.Prelude.{◌≡◌, ◌≤◌, All, IfOk, [], Some, true, length, vec_len};
+ghost use Rattle.std.specs.Prelude.{◌≡◌, ◌≤◌, All, IfOk, [], Some, true, length, vec_len, nat_le, sum_by, ◌^◌};
 ghost use Rattle.std.specs.List.{list_all};
 ghost use Rattle.whopr_words.specs.Commands.{Resolve, words_of, is_file_name, are_objects};
 ghost use Rattle.whopr_top.specs.Reads.{contents_of};
@@ -54,6 +54,23 @@ pub fn objects_of(alloc: Global, contents: &[Vec<u8>]) -> Result<Vec<Object<'_>>
         }
     }
     Ok(objects)
+}
+
+// The most bytes of all objects of a command: 256 MiB.
+const BATCH_BYTES: usize = 256 << 20;
+
+/// Whether files have at most 256 MiB together.
+pub fn is_within_batch(contents: &[Vec<u8>]) -> bool
+    ensures { result ≡ nat_le (sum_by length (contents_of contents.now)) (2 ^ 28) }
+{
+    let mut left = BATCH_BYTES;
+    for bytes in contents {
+        if bytes.len() > left {
+            return false;
+        }
+        left -= bytes.len();
+    }
+    true
 }
 
 /// The name that a word of a command is.
@@ -132,6 +149,9 @@ pub fn resolve<'a, F: FileStore>(
         Err(ReadsFault::TooLong) => return Err(Refusal::TooLong),
         Err(ReadsFault::NoMemory) => return Err(Refusal::Memory),
     };
+    if !is_within_batch(&contents) {
+        return Err(Refusal::TooMuch);
+    }
     let Ok(names) = names_of(alloc, objects) else {
         return Err(Refusal::Memory);
     };

@@ -30,7 +30,7 @@ pub const FILE_BYTES: u64 = 16 << 20;
 /// | 0 | | the command was done |
 /// | 2 | `2 words` | the words are no command, or none of these |
 /// | 3 | `3 object N KIND ..` | the object with this number among those of the command, from 0, has a fault, and none before it; its first, and where it is |
-/// | 4 | `4 limit QUANTITY NUMBER LIMIT` | a file that is read has more than 16 MiB (FileBytes), or the program has too many functions, too much code or too large arrays |
+/// | 4 | `4 limit QUANTITY NUMBER LIMIT` | a file that is read has more than 16 MiB (FileBytes), the objects have more than 256 MiB together (BatchBytes), or the program has too many functions, too much code or too large arrays |
 /// | 5 | `5 read NAME` | a file could not be read; the first |
 /// | 6 | `6 write NAME` | the file could not be written; `-` is the sink |
 /// | 7 | `7 memory` | there was no memory |

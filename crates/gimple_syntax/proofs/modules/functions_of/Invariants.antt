@@ -1,6 +1,12 @@
-use Rattle.std.proofs.Common.{◌≡◌, map, take}
-use Rattle.gimple_syntax.specs.Items.{function_of, functions_in}
+use Rattle.std.proofs.Common.{◌≡◌}
+use Rattle.std.specs.List.{flat_map}
+use Rattle.gimple_syntax.specs.Passes.{function_at, items_read, read_as}
+use Rattle.gimple_syntax.proofs.PassLaws.{going, measure}
 use Rattle.gimple_syntax.proofs.modules.functions_of.Given as goal
 
-abbrev pub invariant-loop-item : goal.invariant-loop-item
-invariant-loop-item l = l.found ≡ map (function_of l.names) (functions_in (take l.item-index l.items))
+abbrev pub decreases-items : goal.decreases-items
+decreases-items l = measure l.more l.reader
+
+-- the functions so far, and those of what is left
+abbrev pub invariant-items : goal.invariant-items
+invariant-items l = going (function_at l.names) l.more l.found l.reader ≡ read_as (flat_map (function_at l.names)) (items_read l.text)

@@ -1,0 +1,75 @@
+-- What the items of a text give, where they are read one by one and each is given up before the next.
+use Rattle.std.specs.Prelude.{◌≡◌, ◌⊎◌, ◌<◌, ℕ, List, [], ◌∷◌, ◌++◌, drop, length, map, Bool, true, false, Result, Ok, Err}
+use Rattle.std.specs.Option.{option_map, option_to_list}
+use Rattle.gimple_ir.specs.declared.types.Function.{Function}
+use Rattle.gimple_ir.specs.declared.types.Module.{Module}
+use Rattle.gimple_tokens.specs.Tokens.{Placed, tokens_of}
+use Rattle.gimple_tokens.specs.Reading.{first_of, line_of}
+use Rattle.gimple_tokens.specs.Stops.{Stuck}
+use Rattle.gimple_grammar.specs.declared.syntax.Item.{Item}
+use Rattle.gimple_grammar.specs.declared.syntax.Item.TheVariants as item
+use Rattle.gimple_grammar.specs.declared.syntax.ItemLine.{ItemLine}
+use Rattle.gimple_grammar.specs.Items.{module_text}
+use Rattle.gimple_grammar.specs.Streams.{with_item}
+use Rattle.gimple_syntax.specs.declared.text.TextFault.{TextFault}
+use Rattle.gimple_syntax.specs.declared.text.TextError.{TextError}
+use Rattle.gimple_syntax.specs.declared.text.TextError.TheVariants.{Fault, NoMemory}
+use Rattle.gimple_syntax.specs.Items.{Items, no_body, function_in, functions_in, function_of}
+use Rattle.gimple_syntax.specs.Reading.{syntax_fault, checked}
+
+-- ---- items without bodies
+
+abbrev pub without_body : Item → Item
+without_body (item.Struct s) = item.Struct s
+without_body (item.ExternArray a) = item.ExternArray a
+without_body (item.ExternFunction f) = item.ExternFunction f
+without_body (item.Array linkage a) = item.Array linkage a
+without_body (item.Function linkage f body) = item.Function linkage f no_body
+
+abbrev pub outline_of : ItemLine → ItemLine
+outline_of i = record { line = i.line; item = without_body i.item }
+
+abbrev pub outlines_of : List ItemLine → List ItemLine
+outlines_of items = map outline_of items
+
+-- the function of an item, if it is one
+abbrev pub function_at : Items → ItemLine → List Function
+function_at names i = option_to_list (option_map (function_of names) (function_in i.item))
+
+abbrev pub functions_from : Items → List ItemLine → List Function
+functions_from names items = map (function_of names) (functions_in items)
+
+-- ---- what a text gives
+
+-- what the grammar reads of a text
+abbrev pub items_read : List ℕ → Result (List ItemLine × List Placed) Stuck
+items_read text = module_text.read (tokens_of text)
+
+-- what f gives of the items that are read
+abbrev pub read_as : {A : Type 0} → (List ItemLine → A) → Result (List ItemLine × List Placed) Stuck → Result (A × List Placed) Stuck
+read_as f (Ok x) = Ok (f x.0, x.1)
+read_as f (Err s) = Err s
+
+-- the fault is that of the token at which reading stopped
+abbrev pub Stops : {A : Type 0} → TextFault → Result A Stuck → Type 0
+Stops fault read = (s : Stuck) × (read ≡ Err s) × (fault ≡ syntax_fault (line_of s.rest) s.kind) × (s.rest ≡ first_of s.rest ∷ drop 1 s.rest)
+
+-- what a call answers that reads the whole text
+abbrev pub GivesRead : {A : Type 0} → Result A TextError → Result (A × List Placed) Stuck → Type 0
+GivesRead (Ok found) read = read ≡ Ok (found, [])
+GivesRead (Err NoMemory) read = Unit {0}
+GivesRead (Err (Fault fault)) read = Stops fault read
+
+-- One item is read, if one is left, and what f gives of it is added. Whether one was left is told.
+abbrev pub AddsParts : {A : Type 0} → (ItemLine → List A) → Result Bool TextError → List A → List A → List Placed → List Placed → Type 0
+AddsParts f (Ok true) old new before after =
+    (i : ItemLine) × (module_text.read before ≡ with_item i (module_text.read after)) × (new ≡ old ++ f i) × (length after < length before)
+AddsParts f (Ok false) old new before after = (module_text.read before ≡ Ok ([], [])) × (new ≡ old)
+AddsParts f (Err NoMemory) old new before after = Unit {0}
+AddsParts f (Err (Fault fault)) old new before after = Stops fault (module_text.read before)
+
+-- what a call answers that reads and checks the whole text
+abbrev pub GivesChecked : Result Module TextError → Result (List ItemLine × List Placed) Stuck → Type 0
+GivesChecked (Ok m) read = read_as checked read ≡ Ok (Ok m, [])
+GivesChecked (Err NoMemory) read = Unit {0}
+GivesChecked (Err (Fault fault)) read = (read_as checked read ≡ Ok (Err fault, [])) ⊎ Stops fault read

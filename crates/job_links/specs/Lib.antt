@@ -1,0 +1,4 @@
+pub mod Reads
+pub mod Alone
+pub mod Answers
+pub mod Linking

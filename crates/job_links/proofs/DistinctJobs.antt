@@ -9,10 +9,10 @@ use Rattle.text_lines.specs.Lines.{Lines, lines_in}
 use Rattle.text_lines.specs.Reading.{line_by, line_from, taken, ◌then◌, counted, at_end, end_from}
 use Rattle.whopr_words.specs.declared.job_file.Job.{Job}
 use Rattle.whopr_words.specs.declared.job_file.Jobs.{Jobs}
-use Rattle.whopr_words.specs.declared.job_file.Link.{Link}
 use Rattle.whopr_words.specs.WordReading.{◌>>=◌, when}
 use Rattle.whopr_words.specs.Jobs.{stands_before, workers_of, is_allowed, link_of, link_at, link_by, object_at, job_of, job_by, links_after, batch_at, jobs_by, with_fault, jobs_in}
 use Rattle.job_links.specs.Answers.{AreDistinct}
+use Rattle.job_links.proofs.Answered.{all_head, all_tail}
 
 -- ---- steps that give something
 
@@ -57,28 +57,25 @@ all_more before job first others differs = All-append (λ (other : Job). other.o
 distinct_more : (before : List Job) (job : Job) → AreDistinct before → All (λ other. other.out ≢ job.out) before → AreDistinct (before ++ job ∷ [])
 distinct_more [] job distinct others = (grind arith, tt)
 distinct_more (first ∷ before) job distinct others =
-    (all_more before job first distinct.0 (λ same. (grind (arith, others) : first.out ≢ job.out) (sym same)), distinct_more before job distinct.1 (grind (arith, others)))
+    let apart : first.out ≢ job.out = all_head (λ (other : Job). other.out ≢ job.out) first before others in
+    (all_more before job first distinct.0 (λ same. apart (sym same)), distinct_more before job distinct.1 (all_tail (λ (other : Job). other.out ≢ job.out) first before others))
 
 -- ---- the reading of jobs
 
-link_allowed : (before : List Job) (words : List (List ℕ)) (link : Link) → link_of before words ≡ Some link → stands_before before link.out ≡ false
-unfolding link_of
-link_allowed before words link h =
-    let a = some_gives _ _ link h in
-    let b = some_gives _ _ link a.2.1 in
-    let c = some_gives _ _ link b.2.1 in
-    let d = some_gives _ _ link c.2.1 in
-    let e = some_gives _ _ link d.2.1 in
-    let f = when_gives _ _ link e.2.1 in
-    grind (arith, common_steps, f.0, f.1)
-
 job_allowed : (before : List Job) (lines : Lines) (job : Job × Lines) → job_by before lines ≡ Ok job → stands_before before job.0.out ≡ false
+unfolding link_of
 job_allowed before lines job h =
-    let a = then_gives _ _ job h in
-    let b = then_gives _ _ job a.2.1 in
-    let line = line_gives (link_at before) lines.number lines.rest a.0 a.1 in
-    let allowed = link_allowed before _ a.0.0 line.1 in
-    let same : job.0.out ≡ a.0.0.out = grind (arith, b.2.1) in
+    let link = then_gives _ _ job h in
+    let objects = then_gives _ _ job link.2 in
+    let line = line_gives (link_at before) lines.number lines.rest link.0 link.1 in
+    let a = some_gives _ _ link.0.0 line.1 in
+    let b = some_gives _ _ link.0.0 a.2 in
+    let c = some_gives _ _ link.0.0 b.2 in
+    let d = some_gives _ _ link.0.0 c.2 in
+    let e = some_gives _ _ link.0.0 d.2 in
+    let f = when_gives _ _ link.0.0 e.2 in
+    let allowed : stands_before before link.0.0.out ≡ false = grind (arith, common_steps, f.0, f.1) in
+    let same : job.0.out ≡ link.0.0.out = grind (arith, objects.2) in
     rw same allowed
 
 links_distinct : (count : ℕ) (before : List Job) (lines : Lines) (links : List Job × Lines) → AreDistinct before → links_after count before lines ≡ Ok links → AreDistinct links.0
@@ -91,7 +88,7 @@ links_distinct (suc count) before lines links distinct h =
 pub jobs_distinct : (text : List ℕ) (jobs : Jobs) → jobs_in text ≡ Ok jobs → AreDistinct jobs.links
 jobs_distinct text jobs h =
     let a = then_gives _ _ jobs (jobs_given (jobs_by (lines_in text)) jobs h) in
-    let b = then_gives _ _ jobs a.2.1 in
-    let same = end_gives _ b.0.1.number b.0.1.rest jobs b.2.1 in
+    let b = then_gives _ _ jobs a.2 in
+    let same = end_gives _ b.0.1.number b.0.1.rest jobs b.2 in
     let distinct = links_distinct a.0.0.0 [] a.0.1 b.0 tt b.1 in
     subst (λ (found : Jobs). AreDistinct found.links) same distinct

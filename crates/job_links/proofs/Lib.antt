@@ -5,3 +5,5 @@ pub mod ObjectsInOrder
 pub mod Answered
 pub mod FinishedJobs
 pub mod LinkedFiles
+pub mod Counted
+pub mod CompleteCommands

@@ -1,6 +1,8 @@
 -- Objects that are read one after the other, up to the first that has a fault.
-use Rattle.std.proofs.Common.{◌≡◌, ℕ, ◌+◌, ◌<◌, List, [], ◌∷◌, ◌++◌, Result, Ok, Err, refl, sym, ◌∙◌, ap, length, drop, get_or}
+use Rattle.std.proofs.Common.{◌≡◌, ℕ, ◌+◌, ◌<◌, List, [], ◌∷◌, ◌++◌, Result, Ok, Err, refl, sym, ◌∙◌, ap, length, drop, get_or, arith}
 use Rattle.std.proofs.lemmas.List.{append_assoc, at_drop_more}
+use Rattle.std.specs.Prelude.{All}
+use Rattle.std.proofs.lemmas.List.Elements.{All-append}
 use Rattle.gimple_ir.specs.declared.types.Module.{Module}
 use Rattle.lto_object.specs.declared.fault.ObjectFault.{ObjectFault}
 use Rattle.lto_object.specs.Objects.{ObjectData, IsObject}
@@ -46,3 +48,9 @@ object_refused done n cs c fault whole lt is read h =
     sym h
     ∙ ap (after_these done) (next_of n cs c lt is)
     ∙ ap (λ r. after_these done (object_before n r (objects_from (n + 1) (drop (n + 1) cs)))) read
+
+all_of_one : {A : Type 0} (P : A → Type 0) (x : A) → P x → All P (x ∷ [])
+all_of_one P x one = grind (arith, one)
+
+pub all_push : {A : Type 0} (P : A → Type 0) (xs : List A) (x : A) → All P xs → P x → All P (xs ++ x ∷ [])
+all_push P xs x all one = All-append P xs (x ∷ []) all (all_of_one P x one)

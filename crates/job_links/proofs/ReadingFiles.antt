@@ -1,5 +1,5 @@
 -- Files that are read one after the other, up to the first that can't be.
-use Rattle.std.proofs.Common.{◌≡◌, ℕ, ◌+◌, ◌<◌, ◌≤◌, List, [], ◌∷◌, ◌++◌, Option, Some, None, Result, Ok, Err, Bool, true, false, cond, nat_lt, sym, ◌∙◌, ap, refl, arith, length, take, drop, get_or, subst}
+use Rattle.std.proofs.Common.{◌≡◌, ℕ, suc, ◌+◌, ◌<◌, ◌≤◌, List, [], ◌∷◌, ◌++◌, Option, Some, None, Result, Ok, Err, Bool, true, false, cond, nat_lt, sym, ◌∙◌, ap, refl, arith, length, take, drop, get_or, subst}
 use Rattle.std.specs.Prelude.{All, IsSomeAnd}
 use Rattle.std.proofs.lemmas.List.{append_assoc, append-nil, at_drop_more, drop_all, take-append-le, length-append}
 use Rattle.std.proofs.lemmas.List.Elements.{All-more}
@@ -9,7 +9,7 @@ use Rattle.outer_files.specs.Outside.{Contents}
 use Rattle.whopr_words.specs.declared.job_file.Job.{Job}
 use Rattle.job_links.specs.declared.reading.ReadsFault.{ReadsFault}
 use Rattle.job_links.specs.declared.reading.ReadsFault.TheVariants.{Failed, TooLong, NoMemory}
-use Rattle.job_links.specs.Reads.{IsWithin, IsReached, file_by, contents_with, contents_from, size_by, size_of, reads_of}
+use Rattle.job_links.specs.Reads.{IsWithin, IsReached, file_by, contents_with, contents_from, files_with, files_by, GivesFile, GivesFiles, size_by, size_of, reads_of}
 
 abbrev pub Found : Type 0
 Found = Result (List (List ℕ)) ReadsFault
@@ -140,8 +140,15 @@ size_front limit held (name ∷ names) more = size_grows limit (held name) (size
 
 pub size_behind : (limit : ℕ) (held : Contents) (names : List (List ℕ)) (last : List ℕ) → All (λ name. IsWithin limit (held name)) names
     → size_of limit held (names ++ last ∷ []) ≡ size_of limit held names + size_by limit (held last) 0
-size_behind limit held [] last within = refl
+size_behind limit held [] last within = omega arith
 size_behind limit held (name ∷ names) last within =
-    let first : IsWithin limit (held name) = grind (arith, within) in
-    let others : All (λ other. IsWithin limit (held other)) names = grind (arith, within) in
+    let first : IsWithin limit (held name) = within 0 name (omega arith) in
+    let others : All (λ other. IsWithin limit (held other)) names = λ k d lt. within (suc k) d (omega (arith, lt)) in
     omega (arith, size_with limit (held name) (size_of limit held names) first, size_with limit (held name) (size_of limit held (names ++ last ∷ [])) first, size_behind limit held names last others)
+
+-- the resolution can't be read
+pub resolution_fault : (limit : ℕ) (held : Contents) (job : Job) (contents : List (List ℕ)) (place : ℕ) (fault : ReadsFault) → contents_from 0 limit held job.objects ≡ Ok contents
+    → place ≡ length job.objects → GivesFile place limit (held job.resolution) (Err fault) → GivesFiles limit held job (Err fault)
+resolution_fault limit held job contents place (Failed failed) read is h = subst (IsReached limit held (reads_of job)) (sym (h ∙ is)) (reached_behind limit held job.objects contents job.resolution read)
+resolution_fault limit held job contents place TooLong read is h = rw (read, ← is, h) refl
+resolution_fault limit held job contents place NoMemory read is h = tt

@@ -49,3 +49,10 @@ told_both P Q R None None f g h = tt
 told_both P Q R None (Some y) f g h = h
 told_both P Q R (Some x) None f g h = h
 told_both P Q R (Some x) (Some y) f g h = f x y g h
+
+-- what is told of the files as they were, where it is asked for
+pub told_given : {A : Type 0} (P : A → Type 0) (Q : A → A → Type 0) (a b : Option A) → IfSome a P → WhereTold a b (λ x y. P x → Q x y) → WhereTold a b Q
+told_given P Q None None p h = tt
+told_given P Q None (Some y) p h = h
+told_given P Q (Some x) None p h = h
+told_given P Q (Some x) (Some y) p h = h p

@@ -13,6 +13,7 @@ use Rattle.whopr_words.specs.declared.fault.JobError.TheVariants.{Fault}
 use Rattle.whopr_words.specs.Jobs.{jobs_in}
 use Rattle.job_links.specs.declared.line.JobLine.{JobLine}
 use Rattle.job_links.specs.declared.line.JobLine.TheVariants.{Done, Object, TooLong, Limit, Read, Write, Memory, Unresolved}
+use Rattle.job_links.specs.declared.line.Report.{Report}
 use Rattle.job_links.specs.declared.line.JobsRefusal.{JobsRefusal}
 use Rattle.job_links.specs.declared.line.JobsRefusal.TheVariants as refusal
 use Rattle.job_links.specs.declared.reading.JobFiles.{JobFiles}
@@ -113,3 +114,22 @@ IsCause limit held name refusal.TooLong = IsLonger limit (held name)
 IsCause limit held name (refusal.Jobs line) = AreNoJobs limit held name line
 IsCause limit held name refusal.BatchBytes = AreTooLarge limit held name
 IsCause limit held name refusal.Memory = Unit {0}
+
+-- ---- where no count rises
+
+-- the job file is held and spells jobs, whose files are not too large together
+pub record IsValid (limit : ℕ) (held : Contents) (name : List ℕ) : Type 0 where
+  pub jobs : Jobs
+  pub are : AreJobs limit held name jobs
+  pub small : batch_of limit held jobs.links ≤ 2 ^ 28
+
+-- the line is that of what the job alone comes to, or that there was no memory
+abbrev pub IsLineOf : ℕ → Contents → Job → JobLine → Type 0
+IsLineOf limit held job (Done bytes) = (image : List ℕ) × GivesImage limit held job image × (bytes ≡ length image)
+IsLineOf limit held job Memory = Unit {0}
+IsLineOf limit held job line = Alone limit held job (Refuses line)
+
+-- the jobs have the lines that they have alone; and where all is valid, the command is refused for want of memory alone
+abbrev pub IsComplete : ℕ → Contents → List ℕ → Result Report JobsRefusal → Type 0
+IsComplete limit held name (Ok report) = AllZip (IsLineOf limit held) report.jobs.links report.lines
+IsComplete limit held name (Err refused) = IsValid limit held name → refused ≡ refusal.Memory

@@ -2,3 +2,4 @@ pub mod Reads
 pub mod Alone
 pub mod Answers
 pub mod Linking
+pub mod Statuses

@@ -9,8 +9,10 @@ mod finishing;
 mod line;
 mod linking;
 mod reading;
+mod report;
 mod top;
 
 pub use line::{JobLine, JobsRefusal, Report};
 pub use reading::{JobFiles, ReadsFault};
+pub use report::status;
 pub use top::{BATCH_BYTES, link_jobs};

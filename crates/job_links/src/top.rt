@@ -1,7 +1,7 @@
 //! The command that links the jobs of a job file.
 ghost use Rattle.std.specs.Prelude.{◌≡◌, ◌≤◌, ◌^◌, ◌-◌, IfErr, IfOk, IfSome, IsErr, IsErrOf, length, sum_by};
 ghost use Rattle.outer_files.specs.Outside.{WhereTold, Rose, RoseBy};
-ghost use Rattle.job_links.specs.Answers.{AreAnswered, AreJobs, IsCause, failures_in};
+ghost use Rattle.job_links.specs.Answers.{AreAnswered, AreJobs, IsCause, IsComplete, failures_in};
 
 use crate::distinct::jobs_are_distinct;
 use crate::finishing::finish_each;
@@ -14,28 +14,18 @@ use whopr_words::{JobError, read_jobs};
 /// The most bytes that the objects and resolutions of a command have together: 256 MiB.
 pub const BATCH_BYTES: u64 = 1 << 28;
 
-/// Links the jobs that a file spells, each alone, and writes their images. All files are read first: for each job its objects in
-/// order and then its resolution, each of at most `limit` bytes. A job that is refused leaves the others as they are.
-pub fn link_jobs<F: FileStore>(
+// What `link_jobs` does.
+fn link_all<F: FileStore>(
     alloc: Global,
     jobs: &str,
     limit: u64,
     files: &mut F,
 ) -> Result<Report, JobsRefusal>
     requires short { limit ≤ 2 ^ 32 - 2 }
-
-    // The jobs are those that the file spells.
     ensures spelled { IfOk result (λ report. IfSome (F.held files.old) (λ held. AreJobs limit held jobs.now report.jobs)) }
-
-    // Each has the line and the image that it has alone; but that a read or a write may fail, and memory may run out. Every other file
-    // stands.
     ensures answered { IfOk result (λ report. WhereTold (F.held files.old) (F.held files.new) (AreAnswered limit report.jobs.links report.lines)) }
     ensures count { IfOk result (λ report. length report.lines ≡ length report.jobs.links) }
-
-    // There are no more lines of files that could not be read or written than the store's count of faults rose.
     ensures counted { IfOk result (λ report. RoseBy (sum_by failures_in report.lines) (F.faults files.old) (F.faults files.new)) }
-
-    // The whole command is refused for a cause, and leaves the files as they were.
     ensures cause { IfErr result (λ refusal. IfSome (F.held files.old) (λ held. IsCause limit held jobs.now refusal)) }
     ensures failed { IsErrOf result JobsRefusal.Read → Rose (F.faults files.old) (F.faults files.new) }
     ensures refused { IsErr result → F.held files.new ≡ F.held files.old }
@@ -65,4 +55,38 @@ pub fn link_jobs<F: FileStore>(
         Ok(lines) => Ok(Report { jobs, lines }),
         Err(_) => Err(JobsRefusal::Memory),
     }
+}
+
+/// Links the jobs that a file spells, each alone, and writes their images. All files are read first: for each job its objects in
+/// order and then its resolution, each of at most `limit` bytes. A job that is refused leaves the others as they are.
+pub fn link_jobs<F: FileStore>(
+    alloc: Global,
+    jobs: &str,
+    limit: u64,
+    files: &mut F,
+) -> Result<Report, JobsRefusal>
+    requires short { limit ≤ 2 ^ 32 - 2 }
+
+    // The jobs are those that the file spells.
+    ensures spelled { IfOk result (λ report. IfSome (F.held files.old) (λ held. AreJobs limit held jobs.now report.jobs)) }
+
+    // Each has the line and the image that it has alone; but that a read or a write may fail, and memory may run out. Every other file
+    // stands.
+    ensures answered { IfOk result (λ report. WhereTold (F.held files.old) (F.held files.new) (AreAnswered limit report.jobs.links report.lines)) }
+    ensures count { IfOk result (λ report. length report.lines ≡ length report.jobs.links) }
+
+    // There are no more lines of files that could not be read or written than the store's count of faults rose.
+    ensures counted { IfOk result (λ report. RoseBy (sum_by failures_in report.lines) (F.faults files.old) (F.faults files.new)) }
+
+    // The whole command is refused for a cause, and leaves the files as they were.
+    ensures cause { IfErr result (λ refusal. IfSome (F.held files.old) (λ held. IsCause limit held jobs.now refusal)) }
+    ensures failed { IsErrOf result JobsRefusal.Read → Rose (F.faults files.old) (F.faults files.new) }
+    ensures refused { IsErr result → F.held files.new ≡ F.held files.old }
+    ensures never_falls { F.faults files.old ≤ F.faults files.new }
+
+    // Where no count of faults rises, each job has the line that it has alone, and only want of memory keeps a valid command from being
+    // done.
+    ensures complete { ¬ Rose (F.faults files.old) (F.faults files.new) → IfSome (F.held files.old) (λ held. IsComplete limit held jobs.now result) }
+{
+    link_all(alloc, jobs, limit, files)
 }

@@ -1,15 +1,18 @@
-//! `bench_link COUNT TIMES` makes the image of a module of COUNT functions and a `main` so many times, and says how many bytes the text
-//! and the image have. Each function has twelve sums and products of its parameter; the code bounds of 20,000 are together 29 MiB.
+//! `bench_link COUNT TIMES` makes the image of an object of COUNT functions and a `main` so many times, and says how many bytes the text
+//! and the image have. Each function calls the one before it, so that all of them are needed, and has twelve sums and products of what
+//! that gives; the code bounds of 20,000 are together 31 MiB.
 #![tactic(auto)]
 
 ghost use Rattle.std.specs.Prelude.{◌<◌, ◌-◌, ◌^◌, length};
 ghost use Rattle.gimple_syntax.specs.Reading.{SpellsModule};
 
 use anyhow::{Result, bail};
-use gimple_ir::Module;
+use gimple_ir::{Module, Name, NoMemory};
 use gimple_syntax::read_module;
-use plain_link::{LinkError, link_module};
+use lto_object::{lgen, read_object};
+use plain_link::link_one;
 use std::alloc::{AllocError, Global};
+use symbol_resolution::resolve;
 use text_laws::read_is_checked;
 
 fn main(rt: HostRuntime) -> Result<()> {
@@ -23,38 +26,52 @@ fn main(rt: HostRuntime) -> Result<()> {
     Ok(())
 }
 
-// The text of so many functions and a `main`.
+// The text of so many functions and a `main`, which calls the last of them.
 fn text_of(alloc: Global, count: u32) -> Result<String, AllocError> {
-    let mut text = String::from_str(alloc, "int main ()\n{\n  return 0;\n}\n")?;
+    let mut text = String::new(alloc);
+    let mut value = String::from_str(alloc, "a")?;
     for number in 0..count {
-        let head = format!(in alloc; "int f{number} (int a)\n{{\n  int x;\n  x = a;\n")?;
+        let head = format!(in alloc; "int f{number} (int a)\n{{\n  int x;\n  x = {value};\n")?;
         text.push_str(head.as_str())?;
         for _ in 0..6 {
             text.push_str("  x = x + a;\n  x = x * a;\n")?;
         }
         text.push_str("  return x;\n}\n")?;
+        value = format!(in alloc; "f{number} (a)")?;
     }
+    let main = format!(in alloc; "int main ()\n{{\n  int a;\n  int x;\n  a = 3;\n  x = {value};\n  return x;\n}}\n")?;
+    text.push_str(main.as_str())?;
     Ok(text)
 }
 
-// The size of the text's image, which is made so many times.
+// The size of the image of the text's object, which is made so many times.
 fn image_bytes(alloc: Global, text: &[u8], times: u32) -> Result<usize> {
     if text.len() >= u32::MAX as usize {
         bail!("a text has more than 2^32 - 2 bytes");
     }
     let source = read_module(alloc, text)?;
+    let file = spelled_object(alloc, text, &source)?;
+    if file.len() >= u32::MAX as usize {
+        bail!("an object has more than 2^32 - 2 bytes");
+    }
+    let objects = vec![in alloc; read_object(alloc, file.as_slice())?]?;
+    let Some(name) = Name::read(alloc, b"bench.o")? else {
+        bail!("no name");
+    };
+    let names = vec![in alloc; name]?;
+    let resolution = resolve(alloc, objects.as_slice(), names.as_slice())?;
     let mut bytes = 0;
     for _ in 0..times {
-        bytes = spelled_image(alloc, text, &source)?.len();
+        bytes = link_one(alloc, objects.as_slice(), names.as_slice(), &resolution)?.len();
     }
     Ok(bytes)
 }
 
-// The image of a module that a text spells.
-fn spelled_image(alloc: Global, text: &[u8], source: &Module) -> Result<Vec<u8>, LinkError>
+// The object of a module that a text spells.
+fn spelled_object(alloc: Global, text: &[u8], source: &Module) -> Result<Vec<u8>, NoMemory>
     requires short { length text.now < 2 ^ 32 - 1 }
     requires spelled { SpellsModule text.now source.now }
 {
     read_is_checked();
-    link_module(alloc, source)
+    lgen(alloc, source)
 }

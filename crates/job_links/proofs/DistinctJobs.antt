@@ -1,16 +1,17 @@
 -- The jobs that a text spells write different files.
 use Rattle.std.proofs.Common.{◌≡◌, ◌≢◌, ℕ, zero, suc, List, [], ◌∷◌, ◌++◌, Option, Some, None, Result, Ok, Err, Bool, true, false, not, ◌&&◌, sym, ◌∙◌, ap, refl, arith, subst}
-use Rattle.std.specs.Prelude.{All, nat_le}
+use Rattle.std.specs.Prelude.{All, nat_le, codes, ◌+◌}
 use Rattle.std.proofs.lemmas.List.Elements.{All-append}
 use Rattle.std.proofs.lemmas.Grind.{common_steps}
 use Rattle.std.specs.Str.{bytes_eq}
 use Rattle.std.proofs.lemmas.Slice.Eq.{bytes_eq-Decides}
 use Rattle.text_lines.specs.Lines.{Lines, lines_in}
+use Rattle.text_lines.specs.Words.{words_of, name_of}
 use Rattle.text_lines.specs.Reading.{line_by, line_from, taken, ◌then◌, counted, at_end, end_from}
 use Rattle.whopr_words.specs.declared.job_file.Job.{Job}
 use Rattle.whopr_words.specs.declared.job_file.Jobs.{Jobs}
-use Rattle.whopr_words.specs.WordReading.{◌>>=◌, when}
-use Rattle.whopr_words.specs.Jobs.{stands_before, workers_of, is_allowed, link_of, link_at, link_by, object_at, job_of, job_by, links_after, batch_at, jobs_by, with_fault, jobs_in}
+use Rattle.whopr_words.specs.WordReading.{◌>>=◌, when, is_nil, word_is, first_by, number_by}
+use Rattle.whopr_words.specs.Jobs.{options_by, stands_before, workers_of, is_allowed, link_of, link_at, link_by, object_at, job_of, job_by, links_after, batch_at, jobs_by, with_fault, jobs_in}
 use Rattle.job_links.specs.Answers.{AreDistinct}
 use Rattle.job_links.proofs.Answered.{all_head, all_tail}
 
@@ -62,33 +63,39 @@ distinct_more (first ∷ before) job distinct others =
 
 -- ---- the reading of jobs
 
+allowed_after : (a b c : Bool) → (a && (not b && c)) ≡ true → b ≡ false
+allowed_after true true c h = grind (arith, h)
+allowed_after true false c h = refl
+allowed_after false b c h = grind (arith, h)
+
 job_allowed : (before : List Job) (lines : Lines) (job : Job × Lines) → job_by before lines ≡ Ok job → stands_before before job.0.out ≡ false
 unfolding link_of
 job_allowed before lines job h =
-    let link = then_gives _ _ job h in
-    let objects = then_gives _ _ job link.2 in
+    let link = then_gives (link_by before lines) _ job h in
+    let objects = then_gives (counted object_at link.0.0.objects 0 link.0.1) _ job link.2 in
     let line = line_gives (link_at before) lines.number lines.rest link.0 link.1 in
-    let a = some_gives _ _ link.0.0 line.1 in
-    let b = some_gives _ _ link.0.0 a.2 in
-    let c = some_gives _ _ link.0.0 b.2 in
-    let d = some_gives _ _ link.0.0 c.2 in
-    let e = some_gives _ _ link.0.0 d.2 in
-    let f = when_gives _ _ link.0.0 e.2 in
-    let allowed : stands_before before link.0.0.out ≡ false = grind (arith, common_steps, f.0, f.1) in
+    let a = some_gives (word_is (codes "link") (words_of line.0)) _ link.0.0 line.1 in
+    let b = some_gives (first_by name_of a.0) _ link.0.0 a.2 in
+    let c = some_gives (first_by name_of b.0.1) _ link.0.0 b.2 in
+    let d = some_gives (options_by c.0.1) _ link.0.0 c.2 in
+    let e = some_gives (number_by (codes "objects") 1 256 d.0.1) _ link.0.0 d.2 in
+    let f = when_gives (is_nil e.0.1 && is_allowed before b.0.0 d.0.0.workers) _ link.0.0 e.2 in
+    let allowed = allowed_after (is_nil e.0.1) (stands_before before b.0.0) (nat_le (workers_of before + d.0.0.workers) 256) f.0 in
+    let named : link.0.0.out ≡ b.0.0 = grind (arith, f.1) in
     let same : job.0.out ≡ link.0.0.out = grind (arith, objects.2) in
-    rw same allowed
+    rw (same, named) allowed
 
 links_distinct : (count : ℕ) (before : List Job) (lines : Lines) (links : List Job × Lines) → AreDistinct before → links_after count before lines ≡ Ok links → AreDistinct links.0
 links_distinct zero before lines links distinct h = subst AreDistinct (grind (arith, h)) distinct
 links_distinct (suc count) before lines links distinct h =
-    let a = then_gives _ _ links h in
+    let a = then_gives (job_by before lines) _ links h in
     let allowed = job_allowed before lines a.0 a.1 in
     links_distinct count (before ++ a.0.0 ∷ []) a.0.1 links (distinct_more before a.0.0 distinct (none_before before a.0.0.out allowed)) a.2
 
 pub jobs_distinct : (text : List ℕ) (jobs : Jobs) → jobs_in text ≡ Ok jobs → AreDistinct jobs.links
 jobs_distinct text jobs h =
-    let a = then_gives _ _ jobs (jobs_given (jobs_by (lines_in text)) jobs h) in
-    let b = then_gives _ _ jobs a.2 in
+    let a = then_gives (line_by batch_at (lines_in text)) _ jobs (jobs_given (jobs_by (lines_in text)) jobs h) in
+    let b = then_gives (links_after a.0.0.0 [] a.0.1) _ jobs a.2 in
     let same = end_gives _ b.0.1.number b.0.1.rest jobs b.2 in
     let distinct = links_distinct a.0.0.0 [] a.0.1 b.0 tt b.1 in
     subst (λ (found : Jobs). AreDistinct found.links) same distinct

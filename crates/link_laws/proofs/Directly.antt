@@ -1,55 +1,66 @@
--- The plan of a program that passes no limit has a direct image.
-use Rattle.std.proofs.Common.{◌≡◌, ℕ, map, true, refl, sym, ap}
-use Rattle.std.specs.Prelude.{All, nat_eq}
-use Rattle.std.specs.List.{list_any}
+-- The plan of a program that passes no limit has a direct image, by what is known of its versions.
+use Rattle.std.proofs.Common.{◌≡◌, List, [], ◌∷◌, map, None, sym, ap, ◌∙◌, subst}
+use Rattle.std.specs.Prelude.{All}
+use Rattle.std.specs.List.{AllByRecursion}
 use Rattle.std.specs.Option.{option_map_or}
-use Rattle.std.proofs.lemmas.List.Elements.{All-from_recursion, All-map, All-weaker}
+use Rattle.std.proofs.lemmas.List.Elements.{recursion_from_All, All-from_recursion, All-weaker}
+use Rattle.gimple_ir.specs.declared.types.Array.{Array}
 use Rattle.gimple_ir.specs.declared.types.ElementType.TheVariants as element
-use Rattle.gimple_ir.specs.declared.types.Function.{Function}
 use Rattle.gimple_ir.specs.declared.types.Program.{Program}
 use Rattle.gimple_ir.specs.declared.merged.Merged.{Merged}
 use Rattle.gimple_ir.specs.declared.merged.MergedArray.{MergedArray}
 use Rattle.gimple_ir.specs.declared.plan.Plan.{Plan}
-use Rattle.gimple_ir.specs.declared.plan.Version.{Version}
+use Rattle.gimple_ir.specs.declared.unit.ArrayUse.{ArrayUse}
 use Rattle.gimple_ir.specs.declared.versioned.VersionedFunction.{VersionedFunction}
-use Rattle.func_summary.specs.Summaries.{arrays_of}
-use Rattle.func_summary.specs.Summarised.{module_of, IsSummarised}
+use Rattle.gimple_ir.specs.Programs.{IsProgramArray}
+use Rattle.func_summary.specs.Summarised.{IsSummarised}
 use Rattle.ipa_plan.specs.Laws.{IsPlanned}
-use Rattle.rv64_select.specs.Versioned.{IsVersioned}
-use Rattle.program_link.specs.Versions.{array_use, functions_of}
-use Rattle.program_link.proofs.VersionFacts.{VersionFacts, versions_have}
-use Rattle.program_link.proofs.Fitting.{version_fits}
-use Rattle.program_link.proofs.PlanLaws.{Within, main_stands, arrays_defined, same_symbols}
+use Rattle.program_link.specs.Versions.{functions_of}
+use Rattle.program_link.specs.Linking.{limits_of, first_passed}
+use Rattle.program_link.specs.Laws.{VersionsFit, SymbolsAgree, SymbolsDiffer, MainStands, IsKeptUse, UsesKept, TextSmall, ArraysSmall}
 use Rattle.image_laws.specs.Direct.{UseIsKept, IsDirect}
-use Rattle.link_laws.proofs.Differing.{symbols_differ}
-use Rattle.link_laws.proofs.Sizes.{text_small, arrays_small}
 
-use_kept : (plan : Plan) (merged : Merged) (number : ℕ) → list_any (nat_eq number) plan.arrays ≡ true → UseIsKept plan merged (array_use merged number)
-use_kept plan merged number kept = record {
-  number = number;
-  kept = kept;
-  symbol = refl;
-  element = λ a at. sym (ap (λ o. option_map_or (λ (x : MergedArray). x.item.element) o element.UnsignedChar) at);
+-- ---- arrays
+
+-- a merged array is the program's
+item_holds : (P : Array → Type 0) (xs : List MergedArray) → AllByRecursion P (map (λ a. a.item) xs) → AllByRecursion (λ a. P a.item) xs
+item_holds P [] h = tt
+item_holds P (x ∷ xs) h = (h.0, item_holds P xs h.1)
+
+arrays_defined : (p : Program) (merged : Merged) → IsSummarised p merged → All (λ (a : MergedArray). IsProgramArray a.item) merged.arrays
+arrays_defined p merged s =
+    All-from_recursion (λ (a : MergedArray). IsProgramArray a.item) merged.arrays
+    (item_holds IsProgramArray merged.arrays (subst (AllByRecursion IsProgramArray) (sym s.items) (recursion_from_All IsProgramArray p.arrays s.program.arrays)))
+
+use_kept : (merged : Merged) (plan : Plan) (u : ArrayUse) → IsKeptUse merged plan u → UseIsKept plan merged u
+use_kept merged plan u h = record {
+  number = u.local;
+  kept = h.0;
+  symbol = ap (λ (x : ArrayUse). x.symbol) h.1;
+  element = λ a at. sym (ap (λ (x : ArrayUse). x.element) h.1 ∙ ap (λ o. option_map_or (λ (x : MergedArray). x.item.element) o element.UnsignedChar) at);
 }
 
--- the arrays that the version of a function names
-uses_kept : (p : Program) (merged : Merged) (plan : Plan) (v : Version) (f : Function) → VersionFacts p merged plan v f → All (UseIsKept plan merged) (map (array_use merged) (arrays_of (module_of p) f))
-uses_kept p merged plan v f known =
-    let named = arrays_of (module_of p) f in
-    All-map (UseIsKept plan merged) (array_use merged) named
-    (All-weaker (λ (a : ℕ). list_any (nat_eq a) plan.arrays ≡ true) (λ (a : ℕ). UseIsKept plan merged (array_use merged a)) (use_kept plan merged) named known.arrays)
+-- ---- all of it
 
-pub is_direct : (p : Program) (merged : Merged) (plan : Plan) → IsSummarised p merged → IsPlanned merged plan → Within merged → IsDirect plan merged (functions_of p merged plan)
-is_direct p merged plan s planned within =
-    let fs = functions_of p merged plan in
-    let uses = λ (f : VersionedFunction). All (UseIsKept plan merged) f.arrays in
-    record {
-      versioned = All-from_recursion IsVersioned fs (versions_have p merged plan IsVersioned s planned (λ v f known. version_fits p merged plan v f s known));
-      differ = symbols_differ p merged plan s planned;
-      arrays = arrays_defined p merged s;
-      uses = All-from_recursion uses fs (versions_have p merged plan uses s planned (uses_kept p merged plan));
-      symbols = sym (same_symbols p merged plan);
-      main = main_stands p merged plan s planned;
-      text = text_small p merged plan s planned within;
-      size = arrays_small merged plan planned within;
-    }
+-- what is known of the versions of a program under its plan
+pub record Known : Type 0 where
+  pub fit : VersionsFit
+  pub agree : SymbolsAgree
+  pub differ : SymbolsDiffer
+  pub main : MainStands
+  pub uses : UsesKept
+  pub text : TextSmall
+  pub arrays : ArraysSmall
+
+pub is_direct : Known → (p : Program) (merged : Merged) (plan : Plan) → IsSummarised p merged → IsPlanned merged plan → first_passed (limits_of merged) ≡ None → IsDirect plan merged (functions_of p merged plan)
+is_direct known p merged plan s planned within = record {
+  versioned = known.fit p merged plan s planned;
+  differ = known.differ p merged plan s planned;
+  arrays = arrays_defined p merged s;
+  uses = All-weaker (λ (f : VersionedFunction). All (IsKeptUse merged plan) f.arrays) (λ (f : VersionedFunction). All (UseIsKept plan merged) f.arrays)
+      (λ f h. All-weaker (IsKeptUse merged plan) (UseIsKept plan merged) (use_kept merged plan) f.arrays h) (functions_of p merged plan) (known.uses p merged plan s planned);
+  symbols = known.agree p merged plan s planned;
+  main = known.main p merged plan s planned;
+  text = known.text p merged plan s planned within;
+  size = known.arrays p merged plan s planned within;
+}

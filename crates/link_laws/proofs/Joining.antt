@@ -1,4 +1,4 @@
--- The laws of linking, of what is known of the image, the machine, the plan and the lowering.
+-- The laws of linking, by what is known of the plan, its versions, the image, the machine and the lowering.
 use Rattle.std.proofs.Common.{◌≡◌, ℕ, List, None, subst, sym}
 use Rattle.gimple_ir.specs.declared.types.Program.{Program}
 use Rattle.gimple_ir.specs.declared.merged.Merged.{Merged}
@@ -11,19 +11,18 @@ use Rattle.follow_laws.specs.Direct.{direct_image}
 use Rattle.follow_laws.specs.Follows.{Follows}
 use Rattle.program_link.specs.Versions.{functions_of}
 use Rattle.program_link.specs.Linking.{limits_of, first_passed}
-use Rattle.program_link.proofs.PlanLaws.{limits_kept}
 use Rattle.machine_laws.specs.Starts.{MachineFollows}
 use Rattle.lowering_laws.specs.Linked.{result_type_of, linked}
 use Rattle.lowering_laws.specs.Laws.{FollowsLaw, TypedLaw}
 use Rattle.image_laws.specs.Direct.{IsDirect, layout_of, DirectLoads, DirectIsPlaced}
 use Rattle.image_laws.specs.Start.{StartIsAtStart}
 use Rattle.link_laws.specs.Laws.{LinkedLoads, LinkedFollows}
-use Rattle.link_laws.proofs.Directly.{is_direct}
+use Rattle.link_laws.proofs.Directly.{Known, is_direct}
 
-module _ (plan_law : PlanLaw) (summarised : SummarisedLaw) where
+module _ (known : Known) (plan_law : PlanLaw) (summarised : SummarisedLaw) where
   direct_of : (p : Program) (merged : Merged) (plan : Plan) → IsSummarised p merged → IsPlanOf merged plan → first_passed (limits_of merged) ≡ None → IsDirect plan merged (functions_of p merged plan)
   direct_of p merged plan s is within =
-      is_direct p merged plan s (plan_law merged plan (summarised p merged s) is) (limits_kept merged within)
+      is_direct known p merged plan s (plan_law merged plan (summarised p merged s) is) within
 
   pub linked_loads : DirectLoads → LinkedLoads
   linked_loads loads p merged image s within k =

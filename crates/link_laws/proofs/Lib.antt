@@ -1,4 +1,2 @@
-pub mod Differing
-pub mod Sizes
 pub mod Directly
 pub mod Joining

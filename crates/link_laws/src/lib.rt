@@ -9,6 +9,7 @@ use image_laws::{direct_images, starts};
 use ipa_plan::planned;
 use lowering_laws::{lock_step, typed_versions};
 use machine_laws::machine_follows;
+use program_link::versioned;
 
 /// The image of each whole program that passes no limit can be loaded, and does on every input what the program does.
 pub fn linked_image_follows()
@@ -16,6 +17,7 @@ pub fn linked_image_follows()
     ensures follows { LinkedFollows }
 {
     planned();
+    versioned();
     direct_images();
     starts();
     machine_follows();

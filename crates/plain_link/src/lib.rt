@@ -3,7 +3,6 @@
 //! In specs/, `Linking` has what the image is, and what is refused, in order.
 #![tactic(auto)]
 
-mod counting;
 mod fault;
 mod linking;
 

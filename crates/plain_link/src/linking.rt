@@ -3,13 +3,12 @@ ghost use Rattle.std.specs.Prelude.{◌≡◌, length, All};
 ghost use Rattle.lto_object.specs.Objects.{IsObject};
 ghost use Rattle.plain_link.specs.Linking.{LinksObjects};
 
-use crate::counting::are_few;
 use crate::fault::LinkError;
 use gimple_ir::Name;
 use lto_object::Object;
 use program_link::link_program;
 use std::alloc::Global;
-use symbol_resolution::{Resolution, merge, merged_programs, program_of};
+use symbol_resolution::{Resolution, are_few, merge, merged_programs, program_of};
 
 // Each is the object of a checked module.
 fn all_are_objects(objects: &[Object<'_>])

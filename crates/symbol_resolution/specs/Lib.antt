@@ -1,3 +1,13 @@
 pub mod Symbols
 pub mod Definitions
 pub mod Resolving
+pub mod Groups
+pub mod LineFaults
+pub mod Lines
+pub mod Marks
+pub mod NameFaults
+pub mod Kept
+pub mod Numbers
+pub mod Linking
+pub mod Merging
+pub mod Laws

@@ -68,7 +68,15 @@ fn rows(rt: HostRuntime) -> Result<(), Fail> {
             "",
             Some(8192),
         ),
-        ("cc h.g h.img", "", none, none, 13, "13 unbuilt\n", None),
+        (
+            "cc h.g h.img",
+            "",
+            none,
+            none,
+            8,
+            "8 resolution NoMain main\n",
+            None,
+        ),
         (
             "cc h.g h.img",
             "int main () { return 2147483648; }",

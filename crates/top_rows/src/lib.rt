@@ -6,3 +6,5 @@
 mod commands;
 #[cfg(test)]
 mod programs;
+#[cfg(test)]
+mod resolutions;

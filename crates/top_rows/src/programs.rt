@@ -105,24 +105,31 @@ fn programs(rt: HostRuntime) -> Result<(), Fail> {
 #[test]
 fn whole(rt: HostRuntime) -> Result<(), Fail> {
     let alloc = rt.alloc();
-    let unbuilt = "13 unbuilt\n";
-    let rows: [(&str, u8, &str); 9] = [
+    let no_main = "8 resolution NoMain main\n";
+    let rows: [(&str, u8, &str); 12] = [
         ("weak int main () { return 5; }", 0, ""),
-        ("static int main () { return 5; }", 13, unbuilt),
-        ("int main (int a) { return a; }", 13, unbuilt),
-        ("long int main () { return 0l; }", 13, unbuilt),
-        ("int f () { return 5; }", 13, unbuilt),
+        ("static int main () { return 5; }", 8, no_main),
+        ("int main (int a) { return a; }", 8, no_main),
+        ("long int main () { return 0l; }", 8, no_main),
+        ("int f () { return 5; }", 8, no_main),
+        ("", 8, no_main),
         ("extern int f (int a); int main () { return 3; }", 0, ""),
         (
             "extern int f (int a); int main () { int x; x = f (1); return x; }",
-            13,
-            unbuilt,
+            8,
+            "8 resolution NoPrevailing f\n",
+        ),
+        (
+            "extern int f (int a); int g () { int x; x = f (1); return x; }",
+            8,
+            "8 resolution NoPrevailing f\n",
         ),
         (
             "extern int A[2]; int main () { int x; x = A[0]; return x; }",
-            13,
-            unbuilt,
+            8,
+            "8 resolution NoPrevailing A\n",
         ),
+        ("extern int A[2]; int main () { return 3; }", 0, ""),
         (
             "unsigned char A[40000000]; unsigned char B[40000000]; int main () { return 0; }",
             4,
@@ -135,6 +142,73 @@ fn whole(rt: HostRuntime) -> Result<(), Fail> {
         assert_eq!(rt; found, status, "{text}");
         assert_eq!(rt; printed.as_slice(), line.as_bytes(), "{text}");
         assert_eq!(rt; files.held("h.img").is_some(), status == 0, "{text}");
+    }
+    Ok(())
+}
+
+// The image of a text.
+fn image_of(alloc: Global, text: &str) -> Result<Vec<u8>, Fail> {
+    let mut files = text_files(alloc, text, "")?;
+    done(alloc, "cc h.g h.img", &mut files)?;
+    let image = files.held("h.img").ok_or("no image")?;
+    Ok(Vec::from_slice(alloc, image)?)
+}
+
+// What nothing needs is not in the image: a static function that nothing calls, and the static array that it alone names.
+#[test]
+fn dead(rt: HostRuntime) -> Result<(), Fail> {
+    let alloc = rt.alloc();
+    let main = "int main () { int x; x = 5; return x; }";
+    let whole = image_of(alloc, main)?;
+    for more in [
+        "static int f () { int x; x = 5; return x; }",
+        "static int A[2000] = {7}; static int f () { int x; x = A[0]; return x; }",
+        "static int A[2000] = {7};",
+    ] {
+        let text = format!(in alloc; "{more} {main}")?;
+        let image = image_of(alloc, text.as_str())?;
+        assert_eq!(rt; image.as_slice(), whole.as_slice(), "{text}");
+    }
+    let kept = image_of(
+        alloc,
+        "static int A[2000] = {7}; int main () { int x; x = A[0]; return x; }",
+    )?;
+    assert!(rt; kept.len() > whole.len());
+    Ok(())
+}
+
+// One function more than a link may have, and more code than it may have.
+#[test]
+fn limits(rt: HostRuntime) -> Result<(), Fail> {
+    let alloc = rt.alloc();
+    let mut functions = String::new(alloc);
+    for number in 0..20_000 {
+        let function = format!(in alloc; "void f{number} () {{ return; }}\n")?;
+        functions.push_str(function.as_str())?;
+    }
+    functions.push_str("int main () { return 0; }\n")?;
+    let mut code = String::from_str(
+        alloc,
+        "struct s { long int a; long int b; long int c; long int d; long int e; long int f; long int g; long int h; };\n",
+    )?;
+    for number in 0..65 {
+        let head = format!(in alloc; "void f{number} () {{ struct s a; struct s b;\n")?;
+        code.push_str(head.as_str())?;
+        for _ in 0..1379 {
+            code.push_str("a = b;\n")?;
+        }
+        code.push_str("return; }\n")?;
+    }
+    code.push_str("int main () { return 0; }\n")?;
+    for (text, line) in [
+        (functions, "4 limit LinkFunctions 20001 20000\n"),
+        (code, "4 limit LinkCode 34064776 33554432\n"),
+    ] {
+        let mut files = text_files(alloc, text.as_str(), "")?;
+        let (status, printed) = done(alloc, "cc h.g h.img", &mut files)?;
+        assert_eq!(rt; status, 4, "{line}");
+        assert_eq!(rt; printed.as_slice(), line.as_bytes());
+        assert!(rt; files.held("h.img").is_none(), "{line}");
     }
     Ok(())
 }

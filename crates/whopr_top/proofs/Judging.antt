@@ -1,28 +1,33 @@
 -- What a command came to: one lemma where it is refused, where its files are written, and where a write is cut short.
 use Rattle.std.proofs.Common.{◌≡◌, ◌≢◌, ℕ, List, [], ◌∷◌, ◌⊎◌, Option, Some, None, Result, Ok, Err, refl, sym, ◌∙◌, ap, inl, inr, arith, ◌≤◌, length, subst}
-use Rattle.std.specs.Prelude.{IfSome, ◌++◌, codes, decimal}
+use Rattle.std.specs.Prelude.{IfSome, IsTrue, ◌++◌, codes, decimal}
 use Rattle.outer_files.specs.Outside.{Contents, WhereTold, Writes, WritesPrefix, Rose, IsLonger}
 use Rattle.gimple_ir.specs.declared.types.Module.{Module}
 use Rattle.gimple_syntax.specs.declared.text.TextFault.{TextFault}
 use Rattle.gimple_syntax.specs.Reading.{read_of}
 use Rattle.lto_object.specs.declared.fault.ObjectFault.{ObjectFault}
-use Rattle.lto_object.specs.Objects.{object_of}
+use Rattle.lto_object.specs.Objects.{object_of, ObjectData}
 use Rattle.lto_object.specs.ObjectReading.{read_of as read_object_of}
-use Rattle.whopr_words.specs.Commands.{Spoken, Cc, Lgen, Show, Run}
+use Rattle.whopr_words.specs.Commands.{Spoken, Cc, Lgen, Show, Run, Resolve}
 use Rattle.rv64_meaning.specs.Laws.{output_of}
 use Rattle.rv64_meaning.specs.Loading.{load_fault_of, run_of}
-use Rattle.plain_link.specs.declared.fault.LimitFault.{LimitFault}
-use Rattle.plain_link.specs.declared.fault.LinkFault.{LinkFault}
-use Rattle.plain_link.specs.declared.fault.LinkFault.TheVariants.{Unbuilt, Limit}
-use Rattle.plain_link.specs.Linking.{link_of}
-use Rattle.gimple_ir.specs.Programs.{IsChecked}
+use Rattle.gimple_ir.specs.declared.merged.Merged.{Merged}
+use Rattle.program_link.specs.declared.fault.LimitFault.{LimitFault}
+use Rattle.program_link.specs.Linking.{limits_of, first_passed}
+use Rattle.resolution_text.specs.declared.fault.ResolutionError.{ResolutionError}
+use Rattle.resolution_text.specs.declared.resolution.Resolution.{Resolution}
+use Rattle.symbol_resolution.specs.Resolving.{resolve_of}
+use Rattle.symbol_resolution.specs.Merging.{merged_of, program_of}
 use Rattle.link_laws.specs.Laws.{LinkedLoads, LinkedFollows}
 use Rattle.whopr_top.specs.Reads.{reads_of, AreHeld, IsOverLimit}
 use Rattle.whopr_top.specs.Lines.{line, text_line, object_line, outcome_line, limit_line}
-use Rattle.whopr_top.specs.Judgements.{File, Judgement, Refuses, Gives, Judges, image_by, cc_by, lgen_by, show_by, run_by}
+use Rattle.whopr_top.specs.Judgements.{File, Judgement, Refuses, Gives, Judges, JudgesImage, JudgesMerged, JudgesResolved, JudgesLink, JudgesText, lgen_by, show_by, run_by, data_of, objects_from, unresolved, resolve_by}
+use Rattle.whopr_top.specs.Compiling.{IsCompiled}
 use Rattle.whopr_top.specs.Outputs.{IsJudged, IsRefused, IsDone, IsCutShort, WritesAll, CutsShort, Faithful, IsFaithful, Refused, IsTooLarge, IsValid}
-use Rattle.whopr_top.specs.Answers.{Exactly, IsLimitLine}
-use Rattle.whopr_top.specs.Attempts.{Judged}
+use Rattle.whopr_top.specs.Answers.{Exactly, IsLimitLine, file_bytes_line, is_status, is_early}
+use Rattle.whopr_top.specs.Attempts.{Attempt, Judged}
+use Rattle.whopr_top.proofs.ObjectImages.{by_limit}
+use Rattle.whopr_top.proofs.ReadingFiles.{over_not_absent, held_not_absent}
 
 -- a store holds one list of contents
 same_contents : (limit : ℕ) (held : Contents) (names : List (List ℕ)) (cs ds : List (List ℕ)) → AreHeld limit held names cs → AreHeld limit held names ds → cs ≡ ds
@@ -48,11 +53,34 @@ alike_self (Gives w x) = tt
 alike_to : (a b c : Judgement) → a ≡ c → b ≡ c → Alike a b
 alike_to a b c e f = subst (λ (x : Judgement). Alike x b) (sym e) (subst (λ (y : Judgement). Alike c y) (sym f) (alike_self c))
 
+-- what `cc` comes to
+
+image_alike : (output : List ℕ) (objects : List ObjectData) (merged : Merged) (passed : Option LimitFault) (a b : Judgement) → JudgesImage output objects merged passed a
+    → JudgesImage output objects merged passed b → Alike a b
+image_alike output objects merged (Some passed) a b h k = alike_to a b (Refuses 4 (limit_line passed)) h k
+image_alike output objects merged None a b (image, is, h) (other, also, k) =
+    subst (λ (x : Judgement). Alike x b) (sym h) (subst (λ (y : Judgement). Alike (Gives ((output, image) ∷ []) []) y) (sym k) tt)
+
+merged_alike : (output : List ℕ) (objects : List ObjectData) (r : Result Merged ResolutionError) (a b : Judgement) → JudgesMerged output objects r a → JudgesMerged output objects r b → Alike a b
+merged_alike output objects (Ok merged) a b h k = image_alike output objects merged (first_passed (limits_of merged)) a b h k
+merged_alike output objects (Err fault) a b h k = alike_to a b (unresolved fault) h k
+
+resolved_alike : (output : List ℕ) (objects : List ObjectData) (names : List (List ℕ)) (r : Result Resolution ResolutionError) (a b : Judgement)
+    → JudgesResolved output objects names r a → JudgesResolved output objects names r b → Alike a b
+resolved_alike output objects names (Ok resolution) a b h k = merged_alike output objects (merged_of objects names resolution) a b h k
+resolved_alike output objects names (Err fault) a b h k = alike_to a b (unresolved fault) h k
+
+text_alike : (input output : List ℕ) (r : Result Module TextFault) (a b : Judgement) → JudgesText input output r a → JudgesText input output r b → Alike a b
+text_alike input output (Ok source) a b h k =
+    resolved_alike output (data_of source ∷ []) (input ∷ []) (resolve_of (data_of source ∷ []) (input ∷ [])) a b h k
+text_alike input output (Err fault) a b h k = alike_to a b (Refuses 9 (text_line fault.line fault.kind)) h k
+
 alike : (command : Spoken) (cs : List (List ℕ)) (a b : Judgement) → Judges command cs a → Judges command cs b → Alike a b
-alike (Cc input output) (text ∷ []) a b h k = alike_to a b (cc_by output (read_of text)) h k
+alike (Cc input output) (text ∷ []) a b h k = text_alike input output (read_of text) a b h k
 alike (Lgen input output) (text ∷ []) a b h k = alike_to a b (lgen_by output (read_of text)) h k
 alike (Show object) (bytes ∷ []) a b h k = alike_to a b (show_by (read_object_of bytes)) h k
 alike (Run image steps input output) (bytes ∷ given ∷ []) a b h k = alike_to a b (run_by output (load_fault_of bytes) (run_of bytes given steps)) h k
+alike (Resolve output objects) contents a b h k = alike_to a b (resolve_by output objects (objects_from 0 contents)) h k
 alike command contents a b h k = absurd h
 
 -- the same of what is held
@@ -165,43 +193,24 @@ the_one old new name bytes (between, writes, same) = subst (λ (c : Contents). W
 
 -- ---- the image of a text that was compiled
 
-abbrev written_of : Judgement → List File
-written_of (Refuses s x) = []
-written_of (Gives w x) = w
-
-image_given : (output : List ℕ) (linked : Result (List ℕ) LinkFault) (w : List File) (x : List ℕ) → Gives w x ≡ image_by output linked
-    → (image : List ℕ) × (linked ≡ Ok image) × (w ≡ (output, image) ∷ [])
-image_given output (Ok image) w x h = (image, refl, ap written_of h)
-image_given output (Err Unbuilt) w x h = absurd (alike_to (Gives w x) (image_by output (Err Unbuilt)) (image_by output (Err Unbuilt)) h refl)
-image_given output (Err (Limit passed)) w x h = absurd (alike_to (Gives w x) (image_by output (Err (Limit passed))) (image_by output (Err (Limit passed))) h refl)
-
--- the module, and its image
-source_given : (output : List ℕ) (r : Result Module TextFault) (w : List File) (x : List ℕ) → Gives w x ≡ cc_by output r
-    → (source : Module) × (image : List ℕ) × (r ≡ Ok source) × (link_of source ≡ Ok image) × (w ≡ (output, image) ∷ [])
-source_given output (Err fault) w x h = absurd (alike_to (Gives w x) (cc_by output (Err fault)) (cc_by output (Err fault)) h refl)
-source_given output (Ok source) w x h = let given = image_given output (link_of source) w x h in (source, given.0, refl, given.1, given.2)
-
-abbrev ok_or : Module → Result Module TextFault → Module
-ok_or other (Ok source) = source
-ok_or other (Err fault) = other
-
--- a text is read to one module
-pub checked_source : (text : List ℕ) (source : Module) → IsChecked source → read_of text ≡ Ok source → (other : Module) → read_of text ≡ Ok other → IsChecked other
-checked_source text source checked read other same = subst IsChecked (ap (ok_or source) (sym read ∙ same)) checked
-
-pub faithful : LinkedLoads → LinkedFollows → (limit : ℕ) (input output text : List ℕ) (w : List File) (x : List ℕ) → Gives w x ≡ cc_by output (read_of text)
-    → (checked : (source : Module) → read_of text ≡ Ok source → IsChecked source) (old new : Contents) → AreHeld limit old (input ∷ []) (text ∷ []) → WritesAll w old new → IsFaithful input output old new
-faithful can_load follows limit input output text w x judged checked old new read writes =
-    let given = source_given output (read_of text) w x judged in
+pub faithful : LinkedLoads → LinkedFollows → (limit : ℕ) (input output text image : List ℕ) (source : Module) → read_of text ≡ Ok source
+    → IsCompiled (data_of source ∷ []) (input ∷ []) image → (old new : Contents) → AreHeld limit old (input ∷ []) (text ∷ []) → WritesAll ((output, image) ∷ []) old new
+    → IsFaithful input output old new
+faithful can_load follows limit input output text image source is compiled old new read writes =
+    let program = program_of (data_of source ∷ []) compiled.merged in
     record {
       text = text;
-      image = given.1;
-      source = given.0;
+      image = image;
+      source = source;
+      resolution = compiled.resolution;
+      merged = compiled.merged;
       held = read.0;
-      read = given.2;
-      written = (the_one old new output given.1 (subst (λ (files : List File). WritesAll files old new) given.4 writes)).written;
-      loads = can_load given.0 given.1 (checked given.0 given.2) given.3;
-      follows = follows given.0 given.1 (checked given.0 given.2) given.3;
+      read = is;
+      resolved = compiled.resolved;
+      merges = compiled.merges;
+      written = (the_one old new output image writes).written;
+      loads = can_load program compiled.merged image compiled.summarised compiled.within compiled.is_image;
+      follows = follows program compiled.merged image compiled.summarised compiled.within compiled.is_image;
     }
 
 -- ---- what the command came to
@@ -213,9 +222,9 @@ refused limit command old new before now s x cs not_0 not_6 read judged =
     record {
       object = λ held told _. exactly_refused limit held command cs s 3 x (at held told) judged;
       large = λ held told _. exactly_limited limit held command cs s x (at held told) judged;
+      resolution = λ held told _. exactly_refused limit held command cs s 8 x (at held told) judged;
       spelled = λ held told _. exactly_refused limit held command cs s 9 x (at held told) judged;
       image = λ held told _. exactly_refused limit held command cs s 11 x (at held told) judged;
-      unbuilt = λ held told _. exactly_refused limit held command cs s 13 x (at held told) judged;
       complete = λ held told valid _. absurd (held_refused limit held command cs s x (at held told) judged valid);
       done = λ is. absurd (not_0 is);
       follows = λ is. absurd (not_0 is);
@@ -236,9 +245,9 @@ done limit command old between new before now w x cs same read judged writes fol
     record {
       object = λ held told _. exactly_other limit held command cs 0 3 w x (λ is. grind (arith, is)) (at held told) judged;
       large = λ held told _. exactly_within limit held command cs 0 w x (λ is. grind (arith, is)) (at held told) judged;
+      resolution = λ held told _. exactly_other limit held command cs 0 8 w x (λ is. grind (arith, is)) (at held told) judged;
       spelled = λ held told _. exactly_other limit held command cs 0 9 w x (λ is. grind (arith, is)) (at held told) judged;
       image = λ held told _. exactly_other limit held command cs 0 11 w x (λ is. grind (arith, is)) (at held told) judged;
-      unbuilt = λ held told _. exactly_other limit held command cs 0 13 w x (λ is. grind (arith, is)) (at held told) judged;
       complete = λ held told valid _. inl refl;
       done = λ _. told_with (λ held. AreHeld limit held (reads_of command) cs) (WritesAll w) (IsDone limit command) old new
           (λ held then h write. record { written = w; text = x; judged = record { contents = cs; read = h; judged = judged }; writes = write }) read then;
@@ -258,9 +267,9 @@ cut_short limit command old between new before now w x y cs same read judged wri
     record {
       object = λ held told _. exactly_other limit held command cs 6 3 w x (λ is. grind (arith, is)) (at held told) judged;
       large = λ held told _. exactly_within limit held command cs 6 w x (λ is. grind (arith, is)) (at held told) judged;
+      resolution = λ held told _. exactly_other limit held command cs 6 8 w x (λ is. grind (arith, is)) (at held told) judged;
       spelled = λ held told _. exactly_other limit held command cs 6 9 w x (λ is. grind (arith, is)) (at held told) judged;
       image = λ held told _. exactly_other limit held command cs 6 11 w x (λ is. grind (arith, is)) (at held told) judged;
-      unbuilt = λ held told _. exactly_other limit held command cs 6 13 w x (λ is. grind (arith, is)) (at held told) judged;
       complete = λ held told valid still. absurd (still rose);
       done = λ is. grind (arith, is);
       follows = λ is. grind (arith, is);
@@ -274,16 +283,24 @@ cut_short limit command old between new before now w x y cs same read judged wri
 
 -- ---- the judgement of `cc`
 
-pub cc_faults : (output text : List ℕ) (fault : TextFault) → read_of text ≡ Err fault → Refuses 9 (text_line fault.line fault.kind) ≡ cc_by output (read_of text)
-cc_faults output text fault e = rw e refl
+pub cc_faults : (input output text : List ℕ) (fault : TextFault) → read_of text ≡ Err fault → JudgesText input output (read_of text) (Refuses 9 (text_line fault.line fault.kind))
+cc_faults input output text fault e = subst (λ (r : Result Module TextFault). JudgesText input output r (Refuses 9 (text_line fault.line fault.kind))) (sym e) refl
 
-pub cc_refuses : (output text : List ℕ) (source : Module) (fault : LinkFault) (judgement : Judgement) → read_of text ≡ Ok source → link_of source ≡ Err fault
-    → judgement ≡ image_by output (Err fault) → judgement ≡ cc_by output (read_of text)
-cc_refuses output text source fault judgement e linked is = rw (e, linked) is
+-- of the object of the module that the text is read to
+pub cc_links : (input output text : List ℕ) (source : Module) (judgement : Judgement) → read_of text ≡ Ok source
+    → JudgesLink output (data_of source ∷ []) (input ∷ []) judgement → JudgesText input output (read_of text) judgement
+cc_links input output text source judgement e judged = subst (λ (r : Result Module TextFault). JudgesText input output r judgement) (sym e) judged
 
-pub cc_gives : (output text image printed : List ℕ) (source : Module) → read_of text ≡ Ok source → link_of source ≡ Ok image → printed ≡ []
-    → Gives ((output, image) ∷ []) printed ≡ cc_by output (read_of text)
-cc_gives output text image printed source e linked none = rw (e, linked, none) refl
+link_gives : (output image printed : List ℕ) (objects : List ObjectData) (names : List (List ℕ)) → IsCompiled objects names image → printed ≡ []
+    → JudgesLink output objects names (Gives ((output, image) ∷ []) printed)
+link_gives output image printed objects names compiled none =
+    by_limit output objects names compiled.resolution compiled.merged None (Gives ((output, image) ∷ []) printed) compiled.resolved compiled.merges compiled.within
+    (image, compiled.is_image, ap (Gives ((output, image) ∷ [])) none)
+
+pub cc_gives : (input output text image printed : List ℕ) (source : Module) → read_of text ≡ Ok source → IsCompiled (data_of source ∷ []) (input ∷ []) image → printed ≡ []
+    → JudgesText input output (read_of text) (Gives ((output, image) ∷ []) printed)
+cc_gives input output text image printed source e compiled none =
+    cc_links input output text source (Gives ((output, image) ∷ []) printed) e (link_gives output image printed (data_of source ∷ []) (input ∷ []) compiled none)
 
 -- ---- the judgement of `lgen`
 
@@ -308,3 +325,89 @@ run_faults output bytes given steps offset is = rw is refl
 pub run_gives : (output bytes given written text : List ℕ) (steps : ℕ) → load_fault_of bytes ≡ None → written ≡ output_of (run_of bytes given steps)
     → text ≡ outcome_line (run_of bytes given steps) → Gives ((output, written) ∷ []) text ≡ run_by output (load_fault_of bytes) (run_of bytes given steps)
 run_gives output bytes given written text steps none is says = rw (none, is, says) refl
+
+-- ---- the judgement of `resolve`
+
+pub resolve_gives : (output : List ℕ) (names : List (List ℕ)) (found : Result (List ObjectData) (ℕ × ObjectFault)) (text printed : List ℕ)
+    → Gives ((output, text) ∷ []) [] ≡ resolve_by output names found → printed ≡ [] → Gives ((output, text) ∷ []) printed ≡ resolve_by output names found
+resolve_gives output names found text printed h none = rw none h
+
+-- ---- words that are no command
+
+never : {A : Type 0} → ⊥ ⊎ ⊥ → A
+never (inl wrong) = absurd wrong
+never (inr wrong) = absurd wrong
+
+none_refused : (n s limit : ℕ) (held : Contents) → s ≢ n → Exactly n s (Refused n limit held None)
+none_refused n s limit held differs = record { only = λ is. absurd (differs is); always = λ refused. absurd refused }
+
+none_judged : (limit : ℕ) (old new : Option Contents) (before now : ℕ) (x : List ℕ) → Judged limit None old new before now 2 x
+none_judged limit old new before now x = record {
+  object = λ held told _. none_refused 3 2 limit held (λ is. grind (arith, is));
+  large = λ held told _. record { only = λ is. grind (arith, is); always = λ large. never large };
+  resolution = λ held told _. none_refused 8 2 limit held (λ is. grind (arith, is));
+  spelled = λ held told _. none_refused 9 2 limit held (λ is. grind (arith, is));
+  image = λ held told _. none_refused 11 2 limit held (λ is. grind (arith, is));
+  complete = λ held told valid _. absurd valid;
+  done = λ is. grind (arith, is);
+  follows = λ is. grind (arith, is);
+  cut_short = λ is. grind (arith, is);
+  done_line = λ is. grind (arith, is);
+  large_line = λ is. grind (arith, is);
+  refused_line = λ is. grind (arith, is);
+}
+
+pub unspoken : (limit : ℕ) (command : Option Spoken) (old new : Option Contents) (before now : ℕ) (x : List ℕ) → command ≡ None → Judged limit command old new before now 2 x
+unspoken limit command old new before now x none =
+    subst (λ (c : Option Spoken). Judged limit c old new before now 2 x) (sym none) (none_judged limit old new before now x)
+
+-- ---- files that are read one after the other
+
+long_not_refused : (limit : ℕ) (held : Contents) (command : Spoken) (n : ℕ) → 4 ≢ n → IsOverLimit limit held (reads_of command) → Exactly n 4 (Refused n limit held (Some command))
+long_not_refused limit held command n differs over = record {
+  only = λ is. absurd (differs is);
+  always = λ refused. absurd (not_over limit held (reads_of command) refused.1.contents refused.1.read over);
+}
+
+-- a file that is too long refuses the command
+pub too_long : (limit : ℕ) (command : Spoken) (old new : Option Contents) (before now : ℕ) → IfSome old (λ held. IsOverLimit limit held (reads_of command))
+    → Judged limit (Some command) old new before now 4 file_bytes_line
+too_long limit command old new before now over =
+    let at = λ (held : Contents) (told : old ≡ Some held). told_at (λ held. IsOverLimit limit held (reads_of command)) old held over told in
+    let other = λ (n : ℕ) (differs : 4 ≢ n) (held : Contents) (told : old ≡ Some held). long_not_refused limit held command n differs (at held told) in
+    record {
+      object = λ held told _. other 3 (λ is. grind (arith, is)) held told;
+      large = λ held told _. record { only = λ _. inl (at held told); always = λ _. inl refl };
+      resolution = λ held told _. other 8 (λ is. grind (arith, is)) held told;
+      spelled = λ held told _. other 9 (λ is. grind (arith, is)) held told;
+      image = λ held told _. other 11 (λ is. grind (arith, is)) held told;
+      complete = λ held told valid _. absurd (not_over limit held (reads_of command) valid.2.contents valid.2.read (at held told));
+      done = λ is. grind (arith, is);
+      follows = λ is. grind (arith, is);
+      cut_short = λ is. grind (arith, is);
+      done_line = λ is. grind (arith, is);
+      large_line = λ _. told_map (λ held. IsOverLimit limit held (reads_of command)) (λ held. IsLimitLine limit held command file_bytes_line) old (λ held h. inl (h, refl)) over;
+      refused_line = λ is. grind (arith, is);
+    }
+
+-- a command whose files were all read
+pub attempted : (limit : ℕ) (command : Spoken) (old new : Option Contents) (s : ℕ) (cs : List (List ℕ)) → IsTrue (is_status s) → s ≢ 2 → s ≢ 7
+    → IfSome old (λ held. AreHeld limit held (reads_of command) cs) → (IsTrue (is_early s) → new ≡ old) → Attempt limit (Some command) old new s
+attempted limit command old new s cs status not_2 not_7 read early = record {
+  answers = status;
+  words = record { only = λ is. absurd (not_2 is); always = λ none. grind (arith, none) };
+  absent = λ held told absent. absurd (held_not_absent limit held (reads_of command) cs (told_at (λ held. AreHeld limit held (reads_of command) cs) old held read told) absent);
+  early = early;
+  memory = λ is. absurd (not_7 is);
+}
+
+-- a command one of whose files is too long
+pub attempted_long : (limit : ℕ) (command : Spoken) (old new : Option Contents) → new ≡ old → IfSome old (λ held. IsOverLimit limit held (reads_of command))
+    → Attempt limit (Some command) old new 4
+attempted_long limit command old new same over = record {
+  answers = refl;
+  words = record { only = λ is. grind (arith, is); always = λ none. grind (arith, none) };
+  absent = λ held told absent. absurd (over_not_absent limit held (reads_of command) (told_at (λ held. IsOverLimit limit held (reads_of command)) old held over told) absent);
+  early = λ _. same;
+  memory = λ _. same;
+}

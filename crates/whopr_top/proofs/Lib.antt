@@ -1,2 +1,5 @@
 pub mod Judging
+pub mod ObjectImages
+pub mod ObjectsInOrder
+pub mod ReadingFiles
 pub mod Telling

@@ -4,12 +4,12 @@ use Rattle.std.specs.Prelude.{◌++◌, codes, decimal}
 use Rattle.outer_files.specs.Outside.{Contents, Known, Rose, RoseBy}
 use Rattle.whopr_words.specs.Commands.{Spoken}
 use Rattle.rv64_meaning.specs.Machine.{Outcome, Running, Ended, Trapped}
-use Rattle.whopr_top.specs.Lines.{line, outcome_line, kind_word, object_word, object_place, quantity_word, spaced}
+use Rattle.whopr_top.specs.Lines.{line, outcome_line, kind_word, object_word, object_place, quantity_word, resolution_word, resolution_place, spaced}
 use Rattle.whopr_top.specs.Answers.{Exactly, lines_of, IsQuiet, CanBeSilent, IsLine, PutsFault, PutsLine, after_fault, WasPut}
 use Rattle.whopr_top.specs.Attempts.{Lined, Judged}
 use Rattle.whopr_top.specs.Refusal.{Reports, Tells, refusal_line, status_of}
 use Rattle.whopr_top.specs.declared.refusal.Refusal.{Refusal}
-use Rattle.whopr_top.specs.declared.refusal.Refusal.TheVariants.{NoCommand, Object, TooLong, Limit, Read, Write, Memory, Text, Image, Unbuilt}
+use Rattle.whopr_top.specs.declared.refusal.Refusal.TheVariants.{NoCommand, Object, TooLong, Limit, Read, Write, Memory, Resolution, Text, Image}
 
 line_is : (limit : ℕ) (held new : Option Contents) (command : Option Spoken) (before now status : ℕ) (text : List ℕ) → Lined limit command held status text
     → Judged limit command held new before now status text → IsLine limit held command status text
@@ -24,9 +24,9 @@ line_is limit held new command before now status text lined judged = record {
   read = lined.read;
   write = lined.write;
   memory = lined.memory;
+  resolution = lined.resolution;
   spelled = lined.spelled;
   image = lined.image;
-  unbuilt = lined.unbuilt;
   refused = judged.refused_line;
 }
 
@@ -42,9 +42,9 @@ memory_line limit held command = record {
   read = λ is. grind (arith, is);
   write = λ is. grind (arith, is);
   memory = λ is. refl;
+  resolution = λ is. grind (arith, is);
   spelled = λ is. grind (arith, is);
   image = λ is. grind (arith, is);
-  unbuilt = λ is. grind (arith, is);
   refused = λ is. grind (arith, is);
 }
 
@@ -61,9 +61,9 @@ not_done (Limit passed) = λ is. grind (arith, is)
 not_done (Read name) = λ is. grind (arith, is)
 not_done (Write name) = λ is. grind (arith, is)
 not_done Memory = λ is. grind (arith, is)
+not_done (Resolution kind place) = λ is. grind (arith, is)
 not_done (Text at kind) = λ is. grind (arith, is)
 not_done (Image offset) = λ is. grind (arith, is)
-not_done Unbuilt = λ is. grind (arith, is)
 
 some : (byte : ℕ) (text : List ℕ) → byte ∷ text ≢ []
 some byte text = λ is. grind (arith, is)
@@ -80,9 +80,9 @@ refusal_is_some (Limit passed) = line_is_some (((codes "4 limit " ++ quantity_wo
 refusal_is_some (Read name) = line_is_some (codes "5 read " ++ name.now)
 refusal_is_some (Write name) = line_is_some (codes "6 write " ++ name.now)
 refusal_is_some Memory = line_is_some (codes "7 memory")
+refusal_is_some (Resolution kind place) = line_is_some ((codes "8 resolution " ++ resolution_word kind) ++ spaced (resolution_place place))
 refusal_is_some (Text at kind) = line_is_some ((codes "9 text " ++ (decimal at ++ codes " ")) ++ kind_word kind)
 refusal_is_some (Image offset) = line_is_some (codes "11 image " ++ decimal offset)
-refusal_is_some Unbuilt = line_is_some (codes "13 unbuilt")
 
 pub outcome_is_some : (outcome : Outcome) → outcome_line outcome ≢ []
 outcome_is_some (Running output) = line_is_some (codes "running")
@@ -118,9 +118,9 @@ done_lined limit command old text quiet silent = record {
   read = λ is. grind (arith, is);
   write = λ is. grind (arith, is);
   memory = λ is. grind (arith, is);
+  resolution = λ is. grind (arith, is);
   spelled = λ is. grind (arith, is);
   image = λ is. grind (arith, is);
-  unbuilt = λ is. grind (arith, is);
 }
 
 pub told : (limit : ℕ) (held new : Option Contents) (command : Option Spoken) (before now result : ℕ) (text : List ℕ) (old known : Known)
@@ -169,3 +169,8 @@ pub counts : (result before now : ℕ) (A B : Type 0) → (result ≡ 0) ⊎ (re
 counts result before now A B (inl is) rose both = inl (subst (λ (n : ℕ). RoseBy (lines_of n) before now) (sym is) rose)
 counts result before now A B (inr (inl is)) rose both = inr (is, (both is).0, (both is).1)
 counts result before now A B (inr (inr is)) rose both = inl (subst (λ (n : ℕ). RoseBy (lines_of n) before now) (sym is) rose)
+
+-- a command that was done was not refused
+pub not_failed : {A : Type 0} (status : ℕ) → status ≡ 0 → (status ≡ 5) ⊎ (status ≡ 7) → A
+not_failed status zero (inl is) = absurd (grind (arith, zero, is))
+not_failed status zero (inr is) = absurd (grind (arith, zero, is))

@@ -1,13 +1,15 @@
 -- The statuses of a command, when each comes, and what is printed with it.
-use Rattle.std.specs.Prelude.{◌≡◌, ◌≢◌, ℕ, ◌==◌, ◌⊎◌, List, [], ◌∷◌, ◌++◌, Bool, if◌then◌else◌, Option, None, Some, codes, decimal, IsTrue, IfSome, IsSomeAnd}
+use Rattle.std.specs.Prelude.{◌≡◌, ◌≢◌, ℕ, ◌==◌, ◌⊎◌, List, [], ◌∷◌, ◌++◌, Bool, if◌then◌else◌, Option, Some, codes, decimal, IsTrue, IfSome, IsSomeAnd}
 use Rattle.std.specs.List.{list_any}
 use Rattle.outer_files.specs.Outside.{Contents, Known, TookPiece, FailedPiece, LackedMemory}
 use Rattle.gimple_syntax.specs.declared.text.TextKind.{TextKind}
 use Rattle.lto_object.specs.declared.fault.ObjectFault.{ObjectFault}
-use Rattle.plain_link.specs.declared.fault.LimitFault.{LimitFault}
-use Rattle.whopr_words.specs.Commands.{Spoken, Cc, Lgen, Show, Run}
+use Rattle.program_link.specs.declared.fault.LimitFault.{LimitFault}
+use Rattle.resolution_text.specs.declared.fault.ResolutionKind.{ResolutionKind}
+use Rattle.whopr_top.specs.declared.refusal.ResolutionPlace.{ResolutionPlace}
+use Rattle.whopr_words.specs.Commands.{Spoken, Cc, Lgen, Show, Resolve}
 use Rattle.whopr_top.specs.Reads.{reads_of, MayWrite, IsOverLimit, IsReached}
-use Rattle.whopr_top.specs.Lines.{line, text_line, object_line, limit_line}
+use Rattle.whopr_top.specs.Lines.{line, text_line, object_line, limit_line, resolution_line}
 use Rattle.whopr_top.specs.Judgements.{File}
 use Rattle.whopr_top.specs.Outputs.{IsJudged, IsRefused}
 
@@ -18,15 +20,15 @@ pub record Exactly (status result : ℕ) (cause : Type 0) : Type 0 where
 
 -- the statuses that there are
 abbrev pub is_status : ℕ → Bool
-is_status status = list_any (λ s. s == status) (0 ∷ 2 ∷ 3 ∷ 4 ∷ 5 ∷ 6 ∷ 7 ∷ 9 ∷ 11 ∷ 13 ∷ [])
+is_status status = list_any (λ s. s == status) (0 ∷ 2 ∷ 3 ∷ 4 ∷ 5 ∷ 6 ∷ 7 ∷ 8 ∷ 9 ∷ 11 ∷ [])
 
 -- the statuses of a command that was refused before its first write
 abbrev pub is_early : ℕ → Bool
-is_early status = list_any (λ s. s == status) (2 ∷ 3 ∷ 4 ∷ 5 ∷ 9 ∷ 11 ∷ 13 ∷ [])
+is_early status = list_any (λ s. s == status) (2 ∷ 3 ∷ 4 ∷ 5 ∷ 8 ∷ 9 ∷ 11 ∷ [])
 
 -- the statuses of a command that what it read refuses
 abbrev pub is_judged : ℕ → Bool
-is_judged status = list_any (λ s. s == status) (3 ∷ 9 ∷ 11 ∷ 13 ∷ [])
+is_judged status = list_any (λ s. s == status) (3 ∷ 8 ∷ 9 ∷ 11 ∷ [])
 
 -- how many lines that name a file are printed with a status of 5 or 6, where the sink itself does not fail
 abbrev pub lines_of : ℕ → ℕ
@@ -34,19 +36,18 @@ lines_of status = if status == 5 then 1 else if status == 6 then 1 else 0
 
 -- the commands that print nothing when they were done
 abbrev pub IsQuiet : Option Spoken → Type 0
-IsQuiet None = ⊥
 IsQuiet (Some (Cc input output)) = Unit {0}
 IsQuiet (Some (Lgen input output)) = Unit {0}
-IsQuiet (Some (Show object)) = ⊥
-IsQuiet (Some (Run image steps input output)) = ⊥
+IsQuiet (Some (Resolve output objects)) = Unit {0}
+IsQuiet command = ⊥
 
 -- the commands whose text may be empty when they were done: a module that declares nothing has an empty text
 abbrev pub CanBeSilent : Option Spoken → Type 0
-CanBeSilent None = ⊥
 CanBeSilent (Some (Cc input output)) = Unit {0}
 CanBeSilent (Some (Lgen input output)) = Unit {0}
 CanBeSilent (Some (Show object)) = Unit {0}
-CanBeSilent (Some (Run image steps input output)) = ⊥
+CanBeSilent (Some (Resolve output objects)) = Unit {0}
+CanBeSilent command = ⊥
 
 -- the line of a file that is too long
 abbrev pub file_bytes_line : List ℕ
@@ -68,9 +69,9 @@ pub record IsLine (limit : ℕ) (held : Option Contents) (command : Option Spoke
   pub read : status ≡ 5 → IsSomeAnd command (λ c. (name : List ℕ) × IfSome held (λ files. IsReached limit files (reads_of c) name) × (text ≡ line (codes "5 read " ++ name)))
   pub write : status ≡ 6 → IsSomeAnd command (λ c. (name : List ℕ) × MayWrite c name × (text ≡ line (codes "6 write " ++ name)))
   pub memory : status ≡ 7 → text ≡ line (codes "7 memory")
+  pub resolution : status ≡ 8 → (kind : ResolutionKind) × (place : ResolutionPlace) × (text ≡ resolution_line kind place)
   pub spelled : status ≡ 9 → (at : ℕ) × (kind : TextKind) × (text ≡ text_line at kind)
   pub image : status ≡ 11 → (offset : ℕ) × (text ≡ line (codes "11 image " ++ decimal offset))
-  pub unbuilt : status ≡ 13 → text ≡ line (codes "13 unbuilt")
   pub refused : IsTrue (is_judged status) → IfSome held (λ files. IsSomeAnd command (λ c. IsRefused limit c files status text))
 
 -- the line for the sink, where it fails itself

@@ -4,10 +4,12 @@ use Rattle.std.specs.Option.{ForSome}
 use Rattle.outer_files.specs.Outside.{Contents, WhereTold, Rose, RoseBy}
 use Rattle.gimple_syntax.specs.declared.text.TextKind.{TextKind}
 use Rattle.lto_object.specs.declared.fault.ObjectFault.{ObjectFault}
-use Rattle.plain_link.specs.declared.fault.LimitFault.{LimitFault}
+use Rattle.program_link.specs.declared.fault.LimitFault.{LimitFault}
+use Rattle.resolution_text.specs.declared.fault.ResolutionKind.{ResolutionKind}
+use Rattle.whopr_top.specs.declared.refusal.ResolutionPlace.{ResolutionPlace}
 use Rattle.whopr_words.specs.Commands.{Spoken}
 use Rattle.whopr_top.specs.Reads.{reads_of, MayWrite, IsAbsent, IsReached}
-use Rattle.whopr_top.specs.Lines.{line, text_line, object_line, limit_line}
+use Rattle.whopr_top.specs.Lines.{line, text_line, object_line, limit_line, resolution_line}
 use Rattle.whopr_top.specs.Judgements.{File}
 use Rattle.whopr_top.specs.Outputs.{IsJudged, IsRefused, Done, Faithful, CutShort, Refused, IsTooLarge, IsValid}
 use Rattle.whopr_top.specs.Answers.{Exactly, is_status, is_early, is_judged, lines_of, IsQuiet, CanBeSilent, file_bytes_line, IsLimitLine}
@@ -36,17 +38,17 @@ pub record Lined (limit : ℕ) (command : Option Spoken) (old : Option Contents)
   pub read : status ≡ 5 → IsSomeAnd command (λ c. (name : List ℕ) × IfSome old (λ files. IsReached limit files (reads_of c) name) × (text ≡ line (codes "5 read " ++ name)))
   pub write : status ≡ 6 → IsSomeAnd command (λ c. (name : List ℕ) × MayWrite c name × (text ≡ line (codes "6 write " ++ name)))
   pub memory : status ≡ 7 → text ≡ line (codes "7 memory")
+  pub resolution : status ≡ 8 → (kind : ResolutionKind) × (place : ResolutionPlace) × (text ≡ resolution_line kind place)
   pub spelled : status ≡ 9 → (at : ℕ) × (kind : TextKind) × (text ≡ text_line at kind)
   pub image : status ≡ 11 → (offset : ℕ) × (text ≡ line (codes "11 image " ++ decimal offset))
-  pub unbuilt : status ≡ 13 → text ≡ line (codes "13 unbuilt")
 
 -- what the command comes to by what it read
 pub record Judged (limit : ℕ) (command : Option Spoken) (old new : Option Contents) (before now status : ℕ) (text : List ℕ) : Type 0 where
   pub object : ForSome old (λ held. status ≢ 5 → Exactly 3 status (Refused 3 limit held command))
   pub large : ForSome old (λ held. status ≢ 5 → Exactly 4 status (IsTooLarge limit held command))
+  pub resolution : ForSome old (λ held. status ≢ 5 → Exactly 8 status (Refused 8 limit held command))
   pub spelled : ForSome old (λ held. status ≢ 5 → Exactly 9 status (Refused 9 limit held command))
   pub image : ForSome old (λ held. status ≢ 5 → Exactly 11 status (Refused 11 limit held command))
-  pub unbuilt : ForSome old (λ held. status ≢ 5 → Exactly 13 status (Refused 13 limit held command))
   pub complete : ForSome old (λ held. IsValid limit held command → ¬ Rose before now → (status ≡ 0) ⊎ (status ≡ 7))
   pub done : status ≡ 0 → WhereTold old new (Done limit command)
   pub follows : status ≡ 0 → WhereTold old new (Faithful command)

@@ -1,20 +1,29 @@
 -- What a command comes to by the bytes of the files that it reads, every fault of the outside set aside: a case a command.
-use Rattle.std.specs.Prelude.{◌≡◌, ℕ, List, [], ◌∷◌, ◌++◌, Option, None, Some, Result, Ok, Err, codes, decimal}
+use Rattle.std.specs.Prelude.{◌≡◌, ℕ, ◌+◌, map, List, [], ◌∷◌, ◌++◌, Option, None, Some, Result, Ok, Err, codes, decimal}
 use Rattle.gimple_ir.specs.declared.types.Module.{Module}
+use Rattle.gimple_ir.specs.declared.merged.Merged.{Merged}
 use Rattle.gimple_syntax.specs.declared.text.TextFault.{TextFault}
 use Rattle.gimple_syntax.specs.Reading.{read_of}
 use Rattle.gimple_print.specs.Canonical.{text_of}
 use Rattle.lto_object.specs.declared.fault.ObjectFault.{ObjectFault}
-use Rattle.lto_object.specs.Objects.{object_of}
+use Rattle.lto_object.specs.BodyStream.{bodies_of}
+use Rattle.lto_object.specs.Objects.{object_of, ObjectData, summaries_of, symbols_of}
 use Rattle.lto_object.specs.ObjectReading.{read_of as read_object_of}
+use Rattle.module_stream.specs.Bodies.{body_of}
 use Rattle.rv64_meaning.specs.Machine.{Outcome}
 use Rattle.rv64_meaning.specs.Laws.{output_of}
 use Rattle.rv64_meaning.specs.Loading.{load_fault_of, run_of}
-use Rattle.plain_link.specs.declared.fault.LinkFault.{LinkFault}
-use Rattle.plain_link.specs.declared.fault.LinkFault.TheVariants.{Unbuilt, Limit}
-use Rattle.plain_link.specs.Linking.{link_of}
-use Rattle.whopr_words.specs.Commands.{Spoken, Cc, Lgen, Show, Run}
-use Rattle.whopr_top.specs.Lines.{line, outcome_line, text_line, object_line, limit_line}
+use Rattle.program_link.specs.declared.fault.LimitFault.{LimitFault}
+use Rattle.program_link.specs.Linking.{limits_of, first_passed, IsImageOf}
+use Rattle.resolution_text.specs.declared.fault.ResolutionError.{ResolutionError}
+use Rattle.resolution_text.specs.declared.fault.ResolutionError.TheVariants as errors
+use Rattle.resolution_text.specs.declared.resolution.Resolution.{Resolution}
+use Rattle.resolution_text.specs.Printing.{text_of as resolution_text}
+use Rattle.symbol_resolution.specs.Resolving.{resolve_of}
+use Rattle.symbol_resolution.specs.Merging.{merged_of, program_of}
+use Rattle.whopr_words.specs.Commands.{Spoken, Cc, Lgen, Show, Run, Resolve}
+use Rattle.whopr_top.specs.declared.refusal.ResolutionPlace.TheVariants.{AtLine, AtName}
+use Rattle.whopr_top.specs.Lines.{line, outcome_line, text_line, object_line, limit_line, resolution_line}
 
 -- a file that is written: its name and its bytes
 abbrev pub File : Type 0
@@ -26,16 +35,7 @@ pub data Judgement : Type 0 where
   -- it writes these files one after the other, and then prints this text, or nothing where that is empty
   Gives : (written : List File) (text : List ℕ) → Judgement
 
--- the image of a module, or why it has none
-abbrev pub image_by : List ℕ → Result (List ℕ) LinkFault → Judgement
-image_by output (Ok image) = Gives ((output, image) ∷ []) []
-image_by output (Err Unbuilt) = Refuses 13 (line (codes "13 unbuilt"))
-image_by output (Err (Limit passed)) = Refuses 4 (limit_line passed)
-
--- `cc`: the image of the module that the text is read to
-abbrev pub cc_by : List ℕ → Result Module TextFault → Judgement
-cc_by output (Ok source) = image_by output (link_of source)
-cc_by output (Err fault) = Refuses 9 (text_line fault.line fault.kind)
+-- ---- one command at a time
 
 -- `lgen`: the object of the module that the text is read to
 abbrev pub lgen_by : List ℕ → Result Module TextFault → Judgement
@@ -52,9 +52,69 @@ abbrev pub run_by : List ℕ → Option ℕ → Outcome → Judgement
 run_by output (Some offset) outcome = Refuses 11 (line (codes "11 image " ++ decimal offset))
 run_by output None outcome = Gives ((output, output_of outcome) ∷ []) (outcome_line outcome)
 
+-- what is seen of the object of a module
+abbrev pub data_of : Module → ObjectData
+data_of m = record { source = m; summaries = summaries_of m; symbols = symbols_of m; bodies = map body_of (bodies_of m.functions) }
+
+-- the object with this number before those after it
+abbrev pub object_before : ℕ → Result Module ObjectFault → Result (List ObjectData) (ℕ × ObjectFault) → Result (List ObjectData) (ℕ × ObjectFault)
+object_before number (Err fault) more = Err (number, fault)
+object_before number (Ok m) (Ok more) = Ok (data_of m ∷ more)
+object_before number (Ok m) (Err refused) = Err refused
+
+-- the objects that files are, of which the first has this number; or the number and the fault of the first that is none
+abbrev pub objects_from : ℕ → List (List ℕ) → Result (List ObjectData) (ℕ × ObjectFault)
+objects_from number [] = Ok []
+objects_from number (bytes ∷ more) = object_before number (read_object_of bytes) (objects_from (number + 1) more)
+
+-- objects that have no resolution, or that do not merge under it
+abbrev pub unresolved : ResolutionError → Judgement
+unresolved (errors.AtLine kind number) = Refuses 8 (resolution_line kind (AtLine number))
+unresolved (errors.AtName kind name) = Refuses 8 (resolution_line kind (AtName name))
+unresolved errors.NoMemory = Refuses 7 (line (codes "7 memory"))
+
+abbrev pub resolution_by : List ℕ → Result Resolution ResolutionError → Judgement
+resolution_by output (Ok resolution) = Gives ((output, resolution_text resolution) ∷ []) []
+resolution_by output (Err fault) = unresolved fault
+
+-- `resolve`: the text of the resolution of the objects, under the names of their files
+abbrev pub resolve_by : List ℕ → List (List ℕ) → Result (List ObjectData) (ℕ × ObjectFault) → Judgement
+resolve_by output names (Ok objects) = resolution_by output (resolve_of objects names)
+resolve_by output names (Err refused) = Refuses 3 (object_line refused.0 refused.1)
+
+-- ---- the link of objects under their own resolution
+
+-- the image of a merged program, unless it passes a limit; the first
+abbrev pub JudgesImage : List ℕ → List ObjectData → Merged → Option LimitFault → Judgement → Type 0
+JudgesImage output objects merged (Some passed) judgement = judgement ≡ Refuses 4 (limit_line passed)
+JudgesImage output objects merged None judgement =
+    (image : List ℕ) × IsImageOf (program_of objects merged) merged image × (judgement ≡ Gives ((output, image) ∷ []) [])
+
+-- the image of the program that objects merge to, unless they don't
+abbrev pub JudgesMerged : List ℕ → List ObjectData → Result Merged ResolutionError → Judgement → Type 0
+JudgesMerged output objects (Ok merged) judgement = JudgesImage output objects merged (first_passed (limits_of merged)) judgement
+JudgesMerged output objects (Err fault) judgement = judgement ≡ unresolved fault
+
+-- the image of objects under their resolution, unless they have none
+abbrev pub JudgesResolved : List ℕ → List ObjectData → List (List ℕ) → Result Resolution ResolutionError → Judgement → Type 0
+JudgesResolved output objects names (Ok resolution) judgement = JudgesMerged output objects (merged_of objects names resolution) judgement
+JudgesResolved output objects names (Err fault) judgement = judgement ≡ unresolved fault
+
+-- the image of objects whose files have these names
+abbrev pub JudgesLink : List ℕ → List ObjectData → List (List ℕ) → Judgement → Type 0
+JudgesLink output objects names judgement = JudgesResolved output objects names (resolve_of objects names) judgement
+
+-- `cc`: the text is read to a module, whose object is linked alone, under the text's name
+abbrev pub JudgesText : (input output : List ℕ) → Result Module TextFault → Judgement → Type 0
+JudgesText input output (Ok source) judgement = JudgesLink output (data_of source ∷ []) (input ∷ []) judgement
+JudgesText input output (Err fault) judgement = judgement ≡ Refuses 9 (text_line fault.line fault.kind)
+
+-- ---- all commands
+
 abbrev pub Judges : Spoken → List (List ℕ) → Judgement → Type 0
-Judges (Cc input output) (text ∷ []) judgement = judgement ≡ cc_by output (read_of text)
+Judges (Cc input output) (text ∷ []) judgement = JudgesText input output (read_of text) judgement
 Judges (Lgen input output) (text ∷ []) judgement = judgement ≡ lgen_by output (read_of text)
 Judges (Show object) (bytes ∷ []) judgement = judgement ≡ show_by (read_object_of bytes)
 Judges (Run image steps input output) (bytes ∷ given ∷ []) judgement = judgement ≡ run_by output (load_fault_of bytes) (run_of bytes given steps)
+Judges (Resolve output objects) contents judgement = judgement ≡ resolve_by output objects (objects_from 0 contents)
 Judges command contents judgement = ⊥

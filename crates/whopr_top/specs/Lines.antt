@@ -1,4 +1,5 @@
--- The lines that commands print: how a machine stands, the fault of a text, the fault of an object, a limit that is passed.
+-- The lines that commands print: how a machine stands, the fault of a text, the fault of an object, a limit that is passed, the fault
+-- of a resolution.
 use Rattle.std.specs.Prelude.{ℕ, List, [], ◌∷◌, ◌++◌, codes, decimal}
 use Rattle.gimple_ir.specs.declared.fault.TypeKind.{TypeKind}
 use Rattle.gimple_ir.specs.declared.fault.TypeKind.TheVariants.{DoubleName, UnknownName, TooMany, BadLabel, OpenEnd, WrongCount, WrongType, NegLiteral, BadCase}
@@ -6,9 +7,13 @@ use Rattle.gimple_syntax.specs.declared.text.TextKind.{TextKind}
 use Rattle.gimple_syntax.specs.declared.text.TextKind.TheVariants.{Byte, Syntax, Literal, Check}
 use Rattle.lto_object.specs.declared.fault.ObjectFault.{ObjectFault}
 use Rattle.lto_object.specs.declared.fault.ObjectFault.TheVariants.{NotElf, WrongClass, WrongMachine, Truncated, MissingSection, DoubleSection, Compressed, BadVersion, BadStream, Trailing, TypeFault, SummaryDiffers, SymbolsDiffer, BadLayout}
-use Rattle.plain_link.specs.declared.fault.LimitFault.{LimitFault}
-use Rattle.plain_link.specs.declared.fault.Quantity.{Quantity}
-use Rattle.plain_link.specs.declared.fault.Quantity.TheVariants.{LinkFunctions, LinkCode, LinkData}
+use Rattle.program_link.specs.declared.fault.LimitFault.{LimitFault}
+use Rattle.program_link.specs.declared.fault.Quantity.{Quantity}
+use Rattle.program_link.specs.declared.fault.Quantity.TheVariants.{LinkFunctions, LinkCode, LinkData}
+use Rattle.resolution_text.specs.declared.fault.ResolutionKind.{ResolutionKind}
+use Rattle.resolution_text.specs.declared.fault.ResolutionKind.TheVariants.{BadLine, FileCount, FileName, SymbolCount, SymbolName, NativeWord, NoPrevailing, TwoPrevailing, WordKind, TypeMismatch, NoMain}
+use Rattle.whopr_top.specs.declared.refusal.ResolutionPlace.{ResolutionPlace}
+use Rattle.whopr_top.specs.declared.refusal.ResolutionPlace.TheVariants.{AtLine, AtName}
 use Rattle.rv64_meaning.specs.Machine.{Outcome, Running, Ended, Trapped}
 
 abbrev pub line : List ℕ → List ℕ
@@ -93,3 +98,26 @@ quantity_word LinkData = codes "LinkData"
 -- the line of a number above its limit
 abbrev pub limit_line : LimitFault → List ℕ
 limit_line passed = line (((codes "4 limit " ++ quantity_word passed.quantity) ++ spaced (decimal passed.number)) ++ spaced (decimal passed.limit))
+
+-- the word of a resolution's fault
+abbrev pub resolution_word : ResolutionKind → List ℕ
+resolution_word BadLine = codes "BadLine"
+resolution_word FileCount = codes "FileCount"
+resolution_word FileName = codes "FileName"
+resolution_word SymbolCount = codes "SymbolCount"
+resolution_word SymbolName = codes "SymbolName"
+resolution_word NativeWord = codes "NativeWord"
+resolution_word NoPrevailing = codes "NoPrevailing"
+resolution_word TwoPrevailing = codes "TwoPrevailing"
+resolution_word WordKind = codes "WordKind"
+resolution_word TypeMismatch = codes "TypeMismatch"
+resolution_word NoMain = codes "NoMain"
+
+-- where it is: at a line of the text, or at a name
+abbrev pub resolution_place : ResolutionPlace → List ℕ
+resolution_place (AtLine number) = decimal number
+resolution_place (AtName name) = name
+
+-- the line of a resolution's fault
+abbrev pub resolution_line : ResolutionKind → ResolutionPlace → List ℕ
+resolution_line kind place = line ((codes "8 resolution " ++ resolution_word kind) ++ spaced (resolution_place place))

@@ -3,12 +3,15 @@ use Rattle.std.specs.Prelude.{◌≡◌, ℕ, ◌⊎◌, List, [], ◌∷◌, Op
 use Rattle.outer_files.specs.Outside.{Contents, Writes, WritesPrefix}
 use Rattle.follow_laws.specs.Follows.{Follows}
 use Rattle.gimple_ir.specs.declared.types.Module.{Module}
+use Rattle.gimple_ir.specs.declared.merged.Merged.{Merged}
 use Rattle.gimple_syntax.specs.Reading.{read_of}
-use Rattle.lowering_laws.specs.Programs.{program_of}
+use Rattle.resolution_text.specs.declared.resolution.Resolution.{Resolution}
+use Rattle.symbol_resolution.specs.Resolving.{resolve_of}
+use Rattle.symbol_resolution.specs.Merging.{merged_of, program_of}
 use Rattle.link_laws.specs.Laws.{IsLoadable}
 use Rattle.whopr_words.specs.Commands.{Spoken, Cc}
 use Rattle.whopr_top.specs.Reads.{reads_of, AreHeld, IsOverLimit}
-use Rattle.whopr_top.specs.Judgements.{File, Refuses, Gives, Judges}
+use Rattle.whopr_top.specs.Judgements.{File, Refuses, Gives, Judges, data_of}
 
 -- ---- writes
 
@@ -38,17 +41,21 @@ pub record IsDone (limit : ℕ) (command : Spoken) (old new : Contents) : Type 0
   pub judged : IsJudged limit command old written text
   pub writes : WritesAll written old new
 
--- the text that is held as IN is read to a module, and OUT holds an image that can be loaded and that does, on every input, what the
--- module's program does
+-- the text that is held as IN is read to a module, whose object merges alone to a whole program, and OUT holds an image that can be
+-- loaded and that does, on every input, what this program does
 pub record IsFaithful (input output : List ℕ) (old new : Contents) : Type 0 where
   pub text : List ℕ
   pub image : List ℕ
   pub source : Module
+  pub resolution : Resolution
+  pub merged : Merged
   pub held : old input ≡ Some text
   pub read : read_of text ≡ Ok source
+  pub resolved : resolve_of (data_of source ∷ []) (input ∷ []) ≡ Ok resolution
+  pub merges : merged_of (data_of source ∷ []) (input ∷ []) resolution ≡ Ok merged
   pub written : new output ≡ Some image
   pub loads : IsLoadable image
-  pub follows : Follows image (program_of source)
+  pub follows : Follows image (program_of (data_of source ∷ []) merged)
 
 -- the image of each text that was compiled follows its program
 abbrev pub Faithful : Option Spoken → Contents → Contents → Type 0

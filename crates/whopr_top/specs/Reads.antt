@@ -1,7 +1,8 @@
 -- What a command asks of the files that it reads and writes, for commands in general.
-use Rattle.std.specs.Prelude.{◌≡◌, ℕ, ◌≤◌, ◌⊎◌, List, [], ◌∷◌, length, Option, None, Some, IsSomeAnd}
+use Rattle.std.specs.Prelude.{◌≡◌, ℕ, ◌≤◌, ◌⊎◌, List, [], ◌∷◌, length, map, Option, None, Some, IsSomeAnd, Vec}
+use Rattle.std.specs.declared.alloc.Global.{Global}
 use Rattle.outer_files.specs.Outside.{Contents, IsLonger}
-use Rattle.whopr_words.specs.Commands.{Spoken, Cc, Lgen, Show, Run}
+use Rattle.whopr_words.specs.Commands.{Spoken, Cc, Lgen, Show, Run, Resolve}
 
 -- the files that a command reads, in order
 abbrev pub reads_of : Spoken → List (List ℕ)
@@ -9,6 +10,8 @@ reads_of (Cc input output) = input ∷ []
 reads_of (Lgen input output) = input ∷ []
 reads_of (Show object) = object ∷ []
 reads_of (Run image steps input output) = image ∷ input ∷ []
+reads_of (Resolve output objects) = objects
+reads_of command = []
 
 -- the names of the files that it may write
 abbrev pub MayWrite : Spoken → List ℕ → Type 0
@@ -16,6 +19,12 @@ MayWrite (Cc input output) name = name ≡ output
 MayWrite (Lgen input output) name = name ≡ output
 MayWrite (Show object) name = ⊥
 MayWrite (Run image steps input output) name = name ≡ output
+MayWrite (Resolve output objects) name = name ≡ output
+MayWrite command name = ⊥
+
+-- the bytes of files that were read
+abbrev pub contents_of : List (Vec ℕ Global) → List (List ℕ)
+contents_of files = map (λ file. file.items) files
 
 -- the file is held with no more bytes than the limit
 abbrev pub IsWithin : ℕ → Option (List ℕ) → Type 0

@@ -1,19 +1,21 @@
 // What a command does before it prints anything: its reads, its work and its writes. What it gives is the text that is printed.
-ghost use Rattle.std.specs.Prelude.{◌≡◌, [], Some, IfOk};
-ghost use Rattle.whopr_words.specs.Commands.{Cc, Lgen, Show, Run, words_of, command_of};
+ghost use Rattle.std.specs.Prelude.{◌≡◌, [], Some, true, IfOk};
+ghost use Rattle.whopr_words.specs.Commands.{Cc, Lgen, Show, Run, words_of, is_file_name};
 ghost use Rattle.whopr_top.specs.Answers.{IsQuiet};
+ghost use Rattle.whopr_top.specs.Built.{command_of};
 ghost use Rattle.whopr_top.specs.Attempts.{Attempt, Counted, Lined, Judged};
 ghost use Rattle.whopr_top.specs.Refusal.{answer_of, text_of};
 
-use crate::objects::{image_of, object_of, shown};
+use crate::compiling::{ImageFault, image_of};
+use crate::objects::{object_of, shown};
 use crate::refusal::Refusal;
+use crate::resolving::resolve;
 use crate::running::run_image;
 use crate::top::FILE_BYTES;
 use gimple_syntax::{TextError, read_module};
 use link_laws::linked_image_follows;
 use lto_object::ObjectError;
 use outer_files::{FileStore, ReadFault, WriteFault};
-use plain_link::{LinkError, LinkFault};
 use rv64_meaning::LoadError;
 use std::alloc::Global;
 use whopr_words::{Command, read_words};
@@ -42,6 +44,12 @@ pub fn attempt<'a, F: FileStore>(
                 out,
             },
         ) => run(alloc, image, steps, input, out, files),
+        Some(Command::Resolve { out, objects }) => resolve(alloc, out, objects, files),
+        Some(Command::Interp { .. }) => Err(Refusal::NoCommand),
+        Some(Command::Link { .. }) => Err(Refusal::NoCommand),
+        Some(Command::Batch { .. }) => Err(Refusal::NoCommand),
+        Some(Command::Replay { .. }) => Err(Refusal::NoCommand),
+        Some(Command::Gen { .. }) => Err(Refusal::NoCommand),
         None => Err(Refusal::NoCommand),
     }
 }
@@ -53,6 +61,7 @@ fn cc<'a, F: FileStore>(
     out: &'a str,
     files: &mut F,
 ) -> Result<Vec<u8>, Refusal<'a>>
+    requires { is_file_name input.now ≡ true }
     ensures quiet { IfOk result (λ text. IsQuiet (Some (Cc input.now out.now)) → text.items ≡ []) }
     ensures attempt { Attempt FILE_BYTES (Some (Cc input.now out.now)) (F.held files.old) (F.held files.new) (answer_of result) }
     ensures counted { Counted (F.faults files.old) (F.faults files.new) (answer_of result) }
@@ -70,11 +79,11 @@ fn cc<'a, F: FileStore>(
         Err(TextError::Fault(fault)) => return Err(Refusal::Text(fault.line, fault.kind)),
         Err(TextError::NoMemory) => return Err(Refusal::Memory),
     };
-    let image = match image_of(alloc, &text, &source) {
+    let image = match image_of(alloc, input, &text, &source) {
         Ok(image) => image,
-        Err(LinkError::Fault(LinkFault::Unbuilt)) => return Err(Refusal::Unbuilt),
-        Err(LinkError::Fault(LinkFault::Limit(passed))) => return Err(Refusal::Limit(passed)),
-        Err(LinkError::NoMemory) => return Err(Refusal::Memory),
+        Err(ImageFault::Resolution(kind, place)) => return Err(Refusal::Resolution(kind, place)),
+        Err(ImageFault::Limit(passed)) => return Err(Refusal::Limit(passed)),
+        Err(ImageFault::NoMemory) => return Err(Refusal::Memory),
     };
     linked_image_follows();
     match files.write_all(out, &image) {

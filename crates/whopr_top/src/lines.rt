@@ -1,14 +1,16 @@
 // The lines that commands print.
 ghost use Rattle.std.specs.Prelude.{◌≡◌, ◌++◌, IfOk, OnOk, [], string_bytes, decimal};
 ghost use Rattle.rv64_meaning.specs.Standings.{outcome_by};
-ghost use Rattle.whopr_top.specs.Lines.{outcome_line, check_word, kind_word, text_line, object_word, object_place, object_line, quantity_word, limit_line, spaced};
+ghost use Rattle.whopr_top.specs.Lines.{outcome_line, check_word, kind_word, text_line, object_word, object_place, object_line, quantity_word, limit_line, resolution_word, resolution_place, resolution_line, spaced};
 
+use crate::refusal::ResolutionPlace;
 use gimple_ir::{TypeFault, TypeKind};
 use gimple_syntax::TextKind;
 use lto_object::ObjectFault;
-use plain_link::{LimitFault, Quantity};
+use program_link::{LimitFault, Quantity};
 use rv64_meaning::MachineState;
 use std::alloc::{AllocError, Global};
+use symbol_resolution::ResolutionKind;
 
 /// The line that says how a machine stands.
 pub fn state_line(alloc: Global, state: MachineState) -> Result<String, AllocError>
@@ -122,7 +124,7 @@ fn push_check(alloc: Global, text: &mut String, fault: &TypeFault) -> Result<(),
 }
 
 /// The line of the first fault of the object with this number.
-pub fn object_line(alloc: Global, number: u32, fault: &ObjectFault) -> Result<String, AllocError>
+pub fn object_line(alloc: Global, number: usize, fault: &ObjectFault) -> Result<String, AllocError>
     ensures { IfOk result (λ found. string_bytes found ≡ object_line number fault.now) }
 {
     let mut text = format!(in alloc; "3 object {number} ")?;
@@ -150,6 +152,56 @@ pub fn limit_line(alloc: Global, passed: LimitFault) -> Result<String, AllocErro
     text.push_str(quantity_word(passed.quantity))?;
     push_number(alloc, &mut text, passed.number)?;
     push_number(alloc, &mut text, passed.limit)?;
+    text.push_str("\n")?;
+    Ok(text)
+}
+
+fn resolution_word(kind: ResolutionKind) -> &'static str
+    ensures { result.now ≡ resolution_word kind }
+{
+    match kind {
+        ResolutionKind::BadLine => "BadLine",
+        ResolutionKind::FileCount => "FileCount",
+        ResolutionKind::FileName => "FileName",
+        ResolutionKind::SymbolCount => "SymbolCount",
+        ResolutionKind::SymbolName => "SymbolName",
+        ResolutionKind::NativeWord => "NativeWord",
+        ResolutionKind::NoPrevailing => "NoPrevailing",
+        ResolutionKind::TwoPrevailing => "TwoPrevailing",
+        ResolutionKind::WordKind => "WordKind",
+        ResolutionKind::TypeMismatch => "TypeMismatch",
+        ResolutionKind::NoMain => "NoMain",
+    }
+}
+
+// Appends where a resolution's fault is.
+fn push_resolution_place(
+    alloc: Global,
+    text: &mut String,
+    place: &ResolutionPlace,
+) -> Result<(), AllocError>
+    ensures { OnOk result (string_bytes text.new ≡ string_bytes text.old ++ spaced (resolution_place place.now)) }
+{
+    match place {
+        ResolutionPlace::AtLine(line) => push_number(alloc, text, u64::from(*line)),
+        ResolutionPlace::AtName(name) => {
+            text.push_str(" ")?;
+            text.push_str(name.as_str())
+        }
+    }
+}
+
+/// The line of a resolution's fault.
+pub fn resolution_line(
+    alloc: Global,
+    kind: ResolutionKind,
+    place: &ResolutionPlace,
+) -> Result<String, AllocError>
+    ensures { IfOk result (λ line. string_bytes line ≡ resolution_line kind place.now) }
+{
+    let mut text = String::from_str(alloc, "8 resolution ")?;
+    text.push_str(resolution_word(kind))?;
+    push_resolution_place(alloc, &mut text, place)?;
     text.push_str("\n")?;
     Ok(text)
 }

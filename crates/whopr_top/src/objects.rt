@@ -1,16 +1,13 @@
-// The object and the image of a text, and the text of an object.
+// The object of a text, and the text of an object.
 ghost use Rattle.std.specs.Prelude.{◌≡◌, ◌<◌, ◌≤◌, ◌-◌, ◌^◌, [], length, IfOk, IfErr};
-ghost use Rattle.gimple_ir.specs.Programs.{IsChecked};
 ghost use Rattle.gimple_syntax.specs.Reading.{SpellsModule};
 ghost use Rattle.lto_object.specs.Objects.{object_of as object_bytes};
 ghost use Rattle.lto_object.specs.ObjectReading.{read_of, Fails};
-ghost use Rattle.plain_link.specs.Linking.{link_of, Links};
 ghost use Rattle.whopr_top.specs.Judgements.{Gives, show_by};
 
 use gimple_ir::{Module, NoMemory};
 use gimple_print::print_module;
 use lto_object::{ObjectError, lgen, read_object};
-use plain_link::{LinkError, link_module};
 use std::alloc::Global;
 use text_laws::read_is_checked;
 
@@ -22,36 +19,6 @@ pub fn object_of(alloc: Global, text: &[u8], source: &Module) -> Result<Vec<u8>,
 {
     read_is_checked();
     lgen(alloc, source)
-}
-
-// The most bytes of an object that can be read.
-const OBJECT_BYTES: usize = (1 << 32) - 2;
-
-// The image of a checked module, by way of its object.
-fn image_by_object(alloc: Global, source: &Module) -> Result<Vec<u8>, LinkError>
-    requires { IsChecked source.now }
-    ensures { Links result (link_of source.now) }
-{
-    let bytes = lgen(alloc, source)?;
-    if bytes.len() > OBJECT_BYTES {
-        return link_module(alloc, source);
-    }
-    match read_object(alloc, &bytes) {
-        Ok(object) => link_module(alloc, object.module()),
-        Err(ObjectError::Fault(_)) => unreachable!(),
-        Err(ObjectError::NoMemory) => Err(LinkError::NoMemory),
-    }
-}
-
-/// The image of a module that a text spells, which is a checked one.
-pub fn image_of(alloc: Global, text: &[u8], source: &Module) -> Result<Vec<u8>, LinkError>
-    requires short { length text.now < 2 ^ 32 - 1 }
-    requires spelled { SpellsModule text.now source.now }
-    ensures linked { Links result (link_of source.now) }
-    ensures checked { IsChecked source.now }
-{
-    read_is_checked();
-    image_by_object(alloc, source)
 }
 
 /// The canonical text of an object's module.

@@ -2,11 +2,22 @@
 ghost use Rattle.std.specs.Prelude.{◌≡◌, IfOk, string_bytes};
 ghost use Rattle.whopr_top.specs.Refusal.{status_of, refusal_line};
 
-use crate::lines::{limit_line, object_line, text_line};
+use crate::lines::{limit_line, object_line, resolution_line, text_line};
+use gimple_ir::Name;
 use gimple_syntax::TextKind;
 use lto_object::ObjectFault;
-use plain_link::LimitFault;
+use program_link::LimitFault;
 use std::alloc::{AllocError, Global};
+use symbol_resolution::ResolutionKind;
+
+/// Where a fault of a resolution is.
+#[derive(Debug, Drop)]
+pub enum ResolutionPlace {
+    /// At this line of its text, counted from 1.
+    AtLine(u32),
+    /// At the symbols of this name.
+    AtName(Name),
+}
 
 /// Why a command was refused. One variant a status.
 #[derive(Debug, Drop)]
@@ -14,7 +25,7 @@ pub enum Refusal<'a> {
     /// 2: the words are no command.
     NoCommand,
     /// 3: the object with this number among those of the command has a fault; its first.
-    Object(u32, ObjectFault),
+    Object(usize, ObjectFault),
     /// 4: a file that is read is longer than 16 MiB.
     TooLong,
     /// 4: the program passes a limit; the first.
@@ -25,12 +36,12 @@ pub enum Refusal<'a> {
     Write(&'a str),
     /// 7: there was no memory.
     Memory,
+    /// 8: the objects have no resolution, or do not merge under it; the first fault.
+    Resolution(ResolutionKind, ResolutionPlace),
     /// 9: the text is outside the grammar, or the checks refuse it; the line and the kind of its first fault.
     Text(u32, TextKind),
     /// 11: the image has its first fault at this byte.
     Image(u64),
-    /// 13: the module is no whole program by itself.
-    Unbuilt,
 }
 
 impl Refusal<'_> {
@@ -45,9 +56,9 @@ impl Refusal<'_> {
             Refusal::Read(_) => 5,
             Refusal::Write(_) => 6,
             Refusal::Memory => 7,
+            Refusal::Resolution(_, _) => 8,
             Refusal::Text(_, _) => 9,
             Refusal::Image(_) => 11,
-            Refusal::Unbuilt => 13,
         }
     }
 }
@@ -64,8 +75,8 @@ pub fn refusal_line(alloc: Global, refusal: Refusal<'_>) -> Result<String, Alloc
         Refusal::Read(name) => format!(in alloc; "5 read {name}\n"),
         Refusal::Write(name) => format!(in alloc; "6 write {name}\n"),
         Refusal::Memory => format!(in alloc; "7 memory\n"),
+        Refusal::Resolution(kind, place) => resolution_line(alloc, kind, &place),
         Refusal::Text(line, kind) => text_line(alloc, line, kind),
         Refusal::Image(offset) => format!(in alloc; "11 image {offset}\n"),
-        Refusal::Unbuilt => format!(in alloc; "13 unbuilt\n"),
     }
 }

@@ -2,7 +2,8 @@
 ghost use Rattle.std.specs.Prelude.{◌≡◌, ◌≢◌, ◌⊎◌, IsTrue, IsSomeAnd, None};
 ghost use Rattle.std.specs.Option.{ForSome};
 ghost use Rattle.outer_files.specs.Outside.{WhereTold, Rose, RoseBy};
-ghost use Rattle.whopr_words.specs.Commands.{words_of, command_of};
+ghost use Rattle.whopr_words.specs.Commands.{words_of};
+ghost use Rattle.whopr_top.specs.Built.{command_of};
 ghost use Rattle.whopr_top.specs.Reads.{reads_of, IsAbsent};
 ghost use Rattle.whopr_top.specs.Outputs.{Done, Faithful, CutShort, Refused, IsTooLarge, IsValid};
 ghost use Rattle.whopr_top.specs.Answers.{Exactly, is_status, is_early, lines_of, IsQuiet, PutsLine};
@@ -17,24 +18,25 @@ pub const FILE_BYTES: u64 = 16 << 20;
 
 /// Does one command and answers its status; the words do not hold the program's name. So far there are
 ///
-/// - `cc IN OUT`, which compiles the text IN, a whole program by itself, to the image OUT and prints nothing;
+/// - `cc IN OUT`, which links the object of the text IN, a whole program by itself, to the image OUT and prints nothing;
 /// - `lgen IN OUT`, which writes the object of the text IN to OUT and prints nothing;
 /// - `show OBJ`, which prints the canonical text of the module of the object OBJ and writes nothing;
 /// - `run IMAGE STEPS INPUT OUT`, which runs the image for at most STEPS steps on the bytes of INPUT, writes its output to OUT,
-///   and prints `running`, `ended S` or `trapped A`, with the status or the address in decimal.
+///   and prints `running`, `ended S` or `trapped A`, with the status or the address in decimal;
+/// - `resolve OUT OBJ..`, which writes to OUT which definition of each name prevails among 1 to 256 objects, and prints nothing.
 ///
 /// | Status | Line | Comes |
 /// |---|---|---|
 /// | 0 | | the command was done |
-/// | 2 | `2 words` | the words are no command |
-/// | 3 | `3 object 0 KIND ..` | the object has a fault; its first, and where it is |
+/// | 2 | `2 words` | the words are no command, or none of these |
+/// | 3 | `3 object N KIND ..` | the object with this number among those of the command, from 0, has a fault, and none before it; its first, and where it is |
 /// | 4 | `4 limit QUANTITY NUMBER LIMIT` | a file that is read has more than 16 MiB (FileBytes), or the program has too many functions, too much code or too large arrays |
-/// | 5 | `5 read NAME` | the file could not be read |
+/// | 5 | `5 read NAME` | a file could not be read; the first |
 /// | 6 | `6 write NAME` | the file could not be written; `-` is the sink |
 /// | 7 | `7 memory` | there was no memory |
+/// | 8 | `8 resolution KIND NAME` | the objects define the name twice, or not at all, or no `int main ()` that is strong or weak; for `cc`, a statement names a declaration, or there is no such `main` |
 /// | 9 | `9 text LINE KIND` | the text is outside the grammar or the checks; its first fault is in this line |
 /// | 11 | `11 image OFFSET` | the image can't be loaded; its first fault is at this byte |
-/// | 13 | `13 unbuilt` | a statement names a declaration, or there is no `int main ()` that is strong or weak |
 pub fn plain<F: FileStore, K: Sink>(
     alloc: Global,
     words: &[String],
@@ -47,9 +49,9 @@ pub fn plain<F: FileStore, K: Sink>(
     ensures object { ForSome (F.held files.old) (λ held. result ≢ 5 → Exactly 3 result (Refused 3 FILE_BYTES held (command_of (words_of words.now)))) }
     ensures limit { ForSome (F.held files.old) (λ held. result ≢ 5 → Exactly 4 result (IsTooLarge FILE_BYTES held (command_of (words_of words.now)))) }
     ensures absent { ForSome (F.held files.old) (λ held. IsSomeAnd (command_of (words_of words.now)) (λ c. IsAbsent FILE_BYTES held (reads_of c)) → (result ≡ 5) ⊎ (result ≡ 7)) }
+    ensures resolution { ForSome (F.held files.old) (λ held. result ≢ 5 → Exactly 8 result (Refused 8 FILE_BYTES held (command_of (words_of words.now)))) }
     ensures text { ForSome (F.held files.old) (λ held. result ≢ 5 → Exactly 9 result (Refused 9 FILE_BYTES held (command_of (words_of words.now)))) }
     ensures image { ForSome (F.held files.old) (λ held. result ≢ 5 → Exactly 11 result (Refused 11 FILE_BYTES held (command_of (words_of words.now)))) }
-    ensures unbuilt { ForSome (F.held files.old) (λ held. result ≢ 5 → Exactly 13 result (Refused 13 FILE_BYTES held (command_of (words_of words.now)))) }
     ensures read { result ≡ 5 → Rose (F.faults files.old) (F.faults files.new) }
     ensures write { result ≡ 6 → Rose (F.faults files.old) (F.faults files.new) ⊎ (Rose (K.known out.old).faults (K.known out.new).faults × ¬ IsQuiet (command_of (words_of words.now))) }
     ensures counting { RoseBy (lines_of result) (F.faults files.old) (F.faults files.new)
@@ -93,9 +95,9 @@ pub fn whopr<F: FileStore, K: Sink>(
     ensures object { ForSome (F.held files.old) (λ held. result ≢ 5 → Exactly 3 result (Refused 3 FILE_BYTES held (command_of (words_of words.now)))) }
     ensures limit { ForSome (F.held files.old) (λ held. result ≢ 5 → Exactly 4 result (IsTooLarge FILE_BYTES held (command_of (words_of words.now)))) }
     ensures absent { ForSome (F.held files.old) (λ held. IsSomeAnd (command_of (words_of words.now)) (λ c. IsAbsent FILE_BYTES held (reads_of c)) → (result ≡ 5) ⊎ (result ≡ 7)) }
+    ensures resolution { ForSome (F.held files.old) (λ held. result ≢ 5 → Exactly 8 result (Refused 8 FILE_BYTES held (command_of (words_of words.now)))) }
     ensures text { ForSome (F.held files.old) (λ held. result ≢ 5 → Exactly 9 result (Refused 9 FILE_BYTES held (command_of (words_of words.now)))) }
     ensures image { ForSome (F.held files.old) (λ held. result ≢ 5 → Exactly 11 result (Refused 11 FILE_BYTES held (command_of (words_of words.now)))) }
-    ensures unbuilt { ForSome (F.held files.old) (λ held. result ≢ 5 → Exactly 13 result (Refused 13 FILE_BYTES held (command_of (words_of words.now)))) }
     ensures read { result ≡ 5 → Rose (F.faults files.old) (F.faults files.new) }
     ensures write { result ≡ 6 → Rose (F.faults files.old) (F.faults files.new) ⊎ (Rose (K.known out.old).faults (K.known out.new).faults × ¬ IsQuiet (command_of (words_of words.now))) }
     ensures counting { RoseBy (lines_of result) (F.faults files.old) (F.faults files.new)

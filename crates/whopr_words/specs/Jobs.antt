@@ -1,7 +1,7 @@
 -- Job files: a line `batch J cache C`, and J times a line `link OUT RES partitions N workers W growth G versions V objects
 -- K` and K lines with one name. J is 1 to 64, C 1 to 4,096, N 1 to 128, W 1 to 64, G 0 to 100, V 1 to 8, K 1 to 256. No OUT
 -- stands twice, and the workers of all links are at most 256. Nothing follows.
-use Rattle.std.specs.Prelude.{◌≡◌, ◌⊎◌, ℕ, zero, suc, ◌+◌, List, [], ◌∷◌, ◌++◌, ◌&&◌, Bool, not, nat_le, codes, sum_by, Option, None, Some, Result, Ok, Err}
+use Rattle.std.specs.Prelude.{◌≡◌, ◌⊎◌, ℕ, zero, suc, ◌+◌, List, [], ◌∷◌, ◌++◌, ◌&&◌, Bool, not, nat_le, codes, sum_by, Option, Some, Result, Ok, Err}
 use Rattle.std.specs.List.{list_any}
 use Rattle.std.specs.Str.{bytes_eq}
 use Rattle.gimple_ir.specs.declared.plan.Options.{Options}

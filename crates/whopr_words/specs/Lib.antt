@@ -1,4 +1,4 @@
+pub mod WordReading
 pub mod Commands
 pub mod Spoken
-pub mod WordReading
 pub mod Jobs

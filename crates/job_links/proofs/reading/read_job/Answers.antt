@@ -41,7 +41,7 @@ pub returns-in_err-resolution-clause-gives : goal.returns-in_err-resolution-clau
 returns-in_err-resolution-clause-gives g c =
     let job = c.args.job.now in
     let limit = c.args.limit in
-    let fault = c.in_err-resolution.field-0 in
+    let fault = c.in_err-resolution.field-0.0 in
     told_2 (λ held. contents_from 0 limit held job.objects ≡ Ok c.in_ok-objects.objects) (λ held. GivesFile c.len.result limit (held job.resolution) (Err fault))
     (λ held. GivesFiles limit held job (Err fault)) _ (λ held read last. resolution_fault limit held job c.in_ok-objects.objects c.len.result fault read c.len.ensures last)
     (rw c.as_slice.ensures at c.in_ok-objects.ensures.gives) (told_there _ _ _ c.in_ok-objects.ensures.unchanged c.in_err-resolution.ensures.gives)

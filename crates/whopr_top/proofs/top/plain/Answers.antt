@@ -1,5 +1,5 @@
 use Rattle.std.proofs.Common.{inr, refl, arith}
-use Rattle.whopr_top.proofs.Telling.{told, reported, six_rose, exactly_kept, fault_kept, not_done, refusal_is_some, counts}
+use Rattle.whopr_top.proofs.Telling.{not_failed, told, reported, six_rose, exactly_kept, fault_kept, not_done, refusal_is_some, counts}
 use Rattle.whopr_top.proofs.top.plain.Goals as goal
 
 pub returns-in-Ok-clause-write : goal.returns-in-Ok-clause-write
@@ -26,3 +26,6 @@ returns-in-Err-clause-absent g c = λ held told absent. fault_kept _ _ c.report.
 pub returns-in-Err-clause-printed : goal.returns-in-Err-clause-printed
 returns-in-Err-clause-printed g c =
     reported _ _ _ _ _ _ _ _ _ _ _ (not_done c.in-Err.refusal) (refusal_is_some c.in-Err.refusal) c.in-Err.ensures.lined c.in-Err.ensures.judged c.report.ensures.printed
+
+pub returns-in-Ok-clause-absent : goal.returns-in-Ok-clause-absent
+returns-in-Ok-clause-absent g c = λ held told absent. not_failed _ refl (c.in-Ok.ensures.attempt.absent held told absent)

@@ -1,5 +1,5 @@
 use Rattle.std.proofs.Common.{◌≡◌, [], ◌∷◌, ◌++◌, arith}
-use Rattle.whopr_words.specs.Jobs.{links_after, workers_of}
+use Rattle.whopr_words.specs.Jobs.{links_after}
 use Rattle.whopr_words.proofs.LinkRows.{taken_link, few_with}
 use Rattle.whopr_words.proofs.job_file.links.Goals as goal
 

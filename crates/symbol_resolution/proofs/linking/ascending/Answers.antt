@@ -1,0 +1,17 @@
+use Rattle.std.proofs.lemmas.List.Filters.{dedup_is}
+use Rattle.std.proofs.lemmas.List.Kept.{Contains-dedup_nat, Contains-from_dedup}
+use Rattle.std.proofs.lemmas.List.Sorted.{Contains-permutation, IsPermutation-sym}
+use Rattle.std.proofs.lemmas.Map.Keys.{IsStrictlyIncreasing-dedup}
+use Rattle.symbol_resolution.proofs.linking.ascending.Goals as goal
+
+pub returns-clause-ascends : goal.returns-clause-ascends
+returns-clause-ascends c = rw (dedup_is _ _ _ c.dedup.ensures.filtered) (IsStrictlyIncreasing-dedup _ c.sort_unstable.ensures.sorted)
+
+pub returns-clause-keeps : goal.returns-clause-keeps
+returns-clause-keeps c x h =
+    rw (dedup_is _ _ _ c.dedup.ensures.filtered) (Contains-dedup_nat _ x (Contains-permutation _ _ x c.sort_unstable.ensures.permutation h))
+
+pub returns-clause-adds_none : goal.returns-clause-adds_none
+returns-clause-adds_none c x h =
+    Contains-permutation _ _ x (IsPermutation-sym _ _ c.sort_unstable.ensures.permutation)
+    (Contains-from_dedup _ _ x (rw (dedup_is _ _ _ c.dedup.ensures.filtered) at h))

@@ -95,19 +95,18 @@ fn read_job<F: FileStore>(
     ensures counted { RoseBy (failures result) (F.faults files.old) (F.faults files.new) }
     ensures size { IfSome (F.held files.old) (λ held. total.new ≤ total.old + sizes_of limit held job.now) }
 {
-    let objects = read_objects(alloc, job.objects.as_slice(), limit, total, files)?;
-    let resolution = read_file(
-        alloc,
-        job.objects.len(),
-        &job.resolution,
-        limit,
-        total,
-        files,
-    )?;
-    Ok(JobFiles {
-        objects,
-        resolution,
-    })
+    let objects = match read_objects(alloc, job.objects.as_slice(), limit, total, files) {
+        Ok(objects) => objects,
+        Err(fault) => return Err(fault),
+    };
+    let place = job.objects.len();
+    match read_file(alloc, place, &job.resolution, limit, total, files) {
+        Ok(resolution) => Ok(JobFiles {
+            objects,
+            resolution,
+        }),
+        Err(fault) => Err(fault),
+    }
 }
 
 /// The files of each job. A job of which one can't be read has no further reads. The bytes that are read are counted.

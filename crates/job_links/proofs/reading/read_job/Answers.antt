@@ -41,6 +41,6 @@ returns-in-Err-read_file-clause-gives g c =
     let job = c.args.job.now in
     let limit = c.args.limit in
     let fault = c.in-Err-read_file.fault in
-    told_2 (λ held. contents_from 0 limit held job.objects ≡ Ok c.in-Ok.objects) (λ held. GivesFile c.len.result limit (held job.resolution) (Err fault))
-    (λ held. GivesFiles limit held job (Err fault)) _ (λ held read last. resolution_fault limit held job c.in-Ok.objects c.len.result fault read c.len.ensures last)
+    told_2 (λ held. contents_from 0 limit held job.objects ≡ Ok c.in-Ok.objects) (λ held. GivesFile c.len-place.result limit (held job.resolution) (Err fault))
+    (λ held. GivesFiles limit held job (Err fault)) _ (λ held read last. resolution_fault limit held job c.in-Ok.objects c.len-place.result fault read c.len-place.ensures last)
     (rw c.as_slice.ensures at c.in-Ok.ensures.gives) (told_there _ _ _ c.in-Ok.ensures.unchanged c.in-Err-read_file.ensures.gives)

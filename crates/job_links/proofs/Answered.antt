@@ -48,7 +48,7 @@ last_of (y ∷ xs) x P all = last_of xs x P (all_tail P y (xs ++ x ∷ []) all)
 
 distinct_first : (first : Job) (jobs : List Job) (i : ℕ) (job : Job) → All (λ other. other.out ≢ first.out) jobs → i < length jobs → job ≡ get_or jobs i job → first.out ≢ job.out
 distinct_first first [] i job others lt is = absurd (omega (arith, lt))
-distinct_first first (next ∷ jobs) zero job others lt is = 
+distinct_first first (next ∷ jobs) zero job others lt is =
     let apart : next.out ≢ first.out = all_head (λ (other : Job). other.out ≢ first.out) next jobs others in
     λ same. apart (sym (same ∙ ap (λ (j : Job). j.out) is))
 distinct_first first (next ∷ jobs) (suc i) job others lt is = distinct_first first jobs i job (all_tail (λ (other : Job). other.out ≢ first.out) next jobs others) (omega (arith, lt)) is
@@ -68,9 +68,10 @@ pub kept : (limit : ℕ) (held old new : Contents) (name : List ℕ) (jobs : Lis
 kept limit held old new name [] [] others differ h = tt
 kept limit held old new name [] (line ∷ lines) others differ h = absurd h
 kept limit held old new name (job ∷ jobs) [] others differ h = absurd h
-kept limit held old new name (job ∷ jobs) (line ∷ lines) others differ h =
-    (subst (λ file. IsAnswered limit held job line file) (sym (others job.out (all_head (λ (j : Job). j.out ≢ name) job jobs differ))) h.0,
-    kept limit held old new name jobs lines others (all_tail (λ (j : Job). j.out ≢ name) job jobs differ) h.1)
+kept limit held old new name (job ∷ jobs) (line ∷ lines) others differ h = (
+  subst (λ file. IsAnswered limit held job line file) (sym (others job.out (all_head (λ (j : Job). j.out ≢ name) job jobs differ))) h.0,
+  kept limit held old new name jobs lines others (all_tail (λ (j : Job). j.out ≢ name) job jobs differ) h.1,
+)
 
 -- one more job is answered
 pub answered_more : (limit : ℕ) (jobs : List Job) (lines : List JobLine) (i : ℕ) (job : Job) (line : JobLine) (held old new : Contents) → AreDistinct jobs → i < length jobs
@@ -102,8 +103,8 @@ pub told_more : (limit : ℕ) (jobs : List Job) (readings : List (Result JobFile
 told_more limit jobs readings lines i job reading line a b c distinct lt is at done stand finished =
     told_then (SoFar limit jobs readings i lines) (Finishes limit job reading line) (SoFar limit jobs readings (i + 1) (lines ++ line ∷ [])) a b c
     (λ held old new so_far this given.
-        let one : GivesFiles limit held job reading =
-        subst (λ (j : Job). GivesFiles limit held j reading) (sym is)
-        (subst (λ (r : Result JobFiles ReadsFault). GivesFiles limit held (get_or jobs i job) r) (sym at) (zip_at (GivesFiles limit held) jobs readings i job reading given lt)) in
-        answered_more limit jobs lines i job line held old new distinct lt is (so_far given) this.0 (this.1 held one))
+    let one : GivesFiles limit held job reading =
+    subst (λ (j : Job). GivesFiles limit held j reading) (sym is)
+    (subst (λ (r : Result JobFiles ReadsFault). GivesFiles limit held (get_or jobs i job) r) (sym at) (zip_at (GivesFiles limit held) jobs readings i job reading given lt)) in
+    answered_more limit jobs lines i job line held old new distinct lt is (so_far given) this.0 (this.1 held one))
     done (told_both (OthersStand job.out) (IsFinished limit job reading line) (Finishes limit job reading line) b c (λ old new x y. (x, y)) stand finished)

@@ -12,9 +12,7 @@ use link_laws::linked_image_follows;
 use lto_object::{Object, ObjectError, read_object};
 use plain_link::{LinkError, link_one};
 use std::alloc::Global;
-use symbol_resolution::{
-    Resolution, ResolutionError, are_few, merged_programs, read_resolution,
-};
+use symbol_resolution::{Resolution, ResolutionError, are_few, merged_programs, read_resolution};
 
 // The objects that files are.
 fn objects_of(alloc: Global, contents: &[List<u8>]) -> Result<Vec<Object<'_>>, JobLine>

@@ -3,3 +3,4 @@ pub mod Alone
 pub mod Answers
 pub mod Linking
 pub mod Statuses
+pub mod MergedJobs

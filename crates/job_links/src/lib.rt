@@ -8,11 +8,13 @@ mod distinct;
 mod finishing;
 mod line;
 mod linking;
+mod merged;
 mod reading;
 mod report;
 mod top;
 
 pub use line::{JobLine, JobsRefusal, Report};
+pub use merged::merged_job;
 pub use reading::{JobFiles, ReadsFault};
 pub use report::status;
 pub use top::{BATCH_BYTES, link_jobs};

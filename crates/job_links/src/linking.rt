@@ -14,8 +14,8 @@ use plain_link::{LinkError, link_one};
 use std::alloc::Global;
 use symbol_resolution::{Resolution, ResolutionError, are_few, merged_programs, read_resolution};
 
-// The objects that files are.
-fn objects_of(alloc: Global, contents: &[List<u8>]) -> Result<Vec<Object<'_>>, JobLine>
+/// The objects that files are.
+pub fn objects_of(alloc: Global, contents: &[List<u8>]) -> Result<Vec<Object<'_>>, JobLine>
     requires { All (λ bytes. length bytes ≤ 2 ^ 32 - 2) contents.now }
     ensures exact { GivesObjects result (objects_from 0 contents.now) }
     ensures count { IfOk result (λ objects. length objects.items ≡ length contents.now) }
@@ -36,8 +36,8 @@ fn objects_of(alloc: Global, contents: &[List<u8>]) -> Result<Vec<Object<'_>>, J
     Ok(objects)
 }
 
-// The resolution that a text spells.
-fn resolution_of(alloc: Global, text: &[u8]) -> Result<Resolution, JobLine>
+/// The resolution that a text spells.
+pub fn resolution_of(alloc: Global, text: &[u8]) -> Result<Resolution, JobLine>
     requires { length text.now ≤ 2 ^ 32 - 2 }
     ensures exact { GivesResolution result (resolution_in text.now) }
     ensures own { IfErr result (λ line. is_own line ≡ true) }

@@ -1,0 +1,8 @@
+use Rattle.std.proofs.Common.{◌≡◌, ◌∙◌, Err, ap}
+use Rattle.job_links.proofs.CompleteCommands.{complete}
+use Rattle.job_links.proofs.top.link_jobs.Goals as goal
+
+pub returns-clause-complete : goal.returns-clause-complete
+returns-clause-complete g c =
+    λ not_rose. complete c.args.limit c.args.jobs.now _ _ _ _ _ c.link_all.ensures.answered c.link_all.ensures.counted c.link_all.ensures.cause
+    (λ refused is read. c.link_all.ensures.failed (is ∙ ap Err read)) c.link_all.ensures.never_falls not_rose

@@ -7,3 +7,4 @@ pub mod FinishedJobs
 pub mod LinkedFiles
 pub mod Counted
 pub mod CompleteCommands
+pub mod JobImages

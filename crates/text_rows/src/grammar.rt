@@ -1,8 +1,8 @@
 // Texts against the rules of the language: every form once, and each kind of fault with its line.
 ghost use Rattle.std.specs.Prelude.{◌<◌, length};
 
-use gimple_grammar::{Item, SyntaxError, next_item, read_text, reading_laws};
-use gimple_tokens::{Reader, TextKind};
+use gimple_grammar::{SyntaxError, read_text};
+use gimple_tokens::TextKind;
 use std::alloc::Global;
 use std::test::Fail;
 
@@ -53,21 +53,6 @@ fn every_form(rt: HostRuntime) -> Result<(), Fail> {
     let items = read_text(rt.alloc(), EVERY_FORM.as_bytes())?;
     assert_eq!(rt; items.len(), 10);
     assert_eq!(rt; items.as_slice()[9].line, 15);
-    Ok(())
-}
-
-// The items come in their order, and then the end.
-#[test]
-fn items_one_by_one(rt: HostRuntime) -> Result<(), Fail> {
-    let text = "int A[1];\n\nvoid f () { ; }\n".as_bytes();
-    reading_laws(text);
-    let mut reader = Reader::new(text);
-    let first = next_item(rt.alloc(), &mut reader)?;
-    let second = next_item(rt.alloc(), &mut reader)?;
-    let third = next_item(rt.alloc(), &mut reader)?;
-    assert!(rt; matches!(first, Some(found) if matches!(found.item, Item::Array(_, _))));
-    assert!(rt; matches!(second, Some(found) if found.line == 3));
-    assert!(rt; third.is_none());
     Ok(())
 }
 

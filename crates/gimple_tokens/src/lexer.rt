@@ -1,7 +1,7 @@
 // The tokens of a text, taken as long as possible: `specs/Tokens.antt` says which they are, and this finds the first.
 ghost use Rattle.std.specs.Prelude.{◌≡◌, ◌+◌, ◌<◌, ◌≤◌, ◌^◌, ◌∷◌, ◌*◌, ◌-◌, ◌&&◌, ◌==◌, nat_lt, length, drop, if◌then◌else◌};
 ghost use Rattle.std.specs.List.{prefix_len};
-ghost use Rattle.gimple_tokens.specs.Tokens.{Lexeme, Piece, lexeme_of, placed, followed, is_space, is_letter, is_digit, is_word_byte, is_bad, is_comment_byte, word_of, value_of, small, suffix_at, suffix_len, sign_at, number_at, word_at, piece_at, tokens_from, one, IsNamed};
+ghost use Rattle.gimple_tokens.specs.Tokens.{Lexeme, Piece, lexeme_of, placed, followed, is_space, is_letter, is_digit, is_word_byte, is_bad, is_comment_byte, same_text, word_of, value_of, small, suffix_at, suffix_len, sign_at, number_at, word_at, piece_at, tokens_from, one, IsNamed};
 ghost use Rattle.gimple_tokens.specs.Found.{found, belongs};
 
 use crate::token::{Keyword, Mark, Suffix, TextKind, Token};
@@ -67,41 +67,52 @@ fn comment_bytes(bytes: &[u8]) -> usize
         .count()
 }
 
+// Most words differ from a keyword in the first byte.
+#[inline]
+fn is_text(word: &[u8], text: &[u8]) -> bool
+    ensures { result ≡ same_text word.now text.now }
+{
+    match (word.first(), text.first()) {
+        (Some(a), Some(b)) if *a != *b => false,
+        _ => word == text,
+    }
+}
+
 #[tactic(auto, unfolding(crate::specs::Tokens::word_of))]
 fn word_of(word: &[u8]) -> Token<'_>
     ensures { lexeme_of result ≡ word_of word.now }
 {
-    if word == b"int".as_slice() {
+    if is_text(word, b"int".as_slice()) {
         Token::Word(Keyword::Int)
-    } else if word == b"unsigned".as_slice() {
+    } else if is_text(word, b"unsigned".as_slice()) {
         Token::Word(Keyword::Unsigned)
-    } else if word == b"long".as_slice() {
+    } else if is_text(word, b"long".as_slice()) {
         Token::Word(Keyword::Long)
-    } else if word == b"char".as_slice() {
+    } else if is_text(word, b"char".as_slice()) {
         Token::Word(Keyword::Char)
-    } else if word == b"struct".as_slice() {
+    } else if is_text(word, b"struct".as_slice()) {
         Token::Word(Keyword::Struct)
-    } else if word == b"static".as_slice() {
+    } else if is_text(word, b"static".as_slice()) {
         Token::Word(Keyword::Static)
-    } else if word == b"extern".as_slice() {
+    } else if is_text(word, b"extern".as_slice()) {
         Token::Word(Keyword::Extern)
-    } else if word == b"weak".as_slice() {
+    } else if is_text(word, b"weak".as_slice()) {
         Token::Word(Keyword::Weak)
-    } else if word == b"void".as_slice() {
+    } else if is_text(word, b"void".as_slice()) {
         Token::Word(Keyword::Void)
-    } else if word == b"if".as_slice() {
+    } else if is_text(word, b"if".as_slice()) {
         Token::Word(Keyword::If)
-    } else if word == b"else".as_slice() {
+    } else if is_text(word, b"else".as_slice()) {
         Token::Word(Keyword::Else)
-    } else if word == b"goto".as_slice() {
+    } else if is_text(word, b"goto".as_slice()) {
         Token::Word(Keyword::Goto)
-    } else if word == b"switch".as_slice() {
+    } else if is_text(word, b"switch".as_slice()) {
         Token::Word(Keyword::Switch)
-    } else if word == b"case".as_slice() {
+    } else if is_text(word, b"case".as_slice()) {
         Token::Word(Keyword::Case)
-    } else if word == b"default".as_slice() {
+    } else if is_text(word, b"default".as_slice()) {
         Token::Word(Keyword::Default)
-    } else if word == b"return".as_slice() {
+    } else if is_text(word, b"return".as_slice()) {
         Token::Word(Keyword::Return)
     } else if word.len() > 255 {
         Token::Bad(TextKind::Syntax)

@@ -1,7 +1,8 @@
 // The tokens of a text, taken as long as possible: `specs/Tokens.antt` says which they are, and this finds the first.
 ghost use Rattle.std.specs.Prelude.{◌≡◌, ◌+◌, ◌<◌, ◌≤◌, ◌^◌, ◌∷◌, ◌*◌, ◌-◌, ◌&&◌, ◌==◌, nat_lt, length, drop, if◌then◌else◌};
 ghost use Rattle.std.specs.List.{prefix_len};
-ghost use Rattle.gimple_tokens.specs.Tokens.{Lexeme, Piece, lexeme_of, placed, followed, is_space, is_letter, is_digit, is_word_byte, is_bad, is_comment_byte, same_text, word_of, value_of, small, suffix_at, suffix_len, sign_at, number_at, word_at, piece_at, tokens_from, one, IsNamed};
+ghost use Rattle.gimple_tokens.specs.Tokens.{Lexeme, Piece, Bad, Name, Word, lexeme_of, placed, followed, is_space, is_letter, is_digit, is_word_byte, is_bad, is_comment_byte, word_of, value_of, small, suffix_at, suffix_len, sign_at, number_at, word_at, piece_at, tokens_from, one, IsNamed};
+ghost use Rattle.gimple_tokens.specs.declared.token.TextKind.TheVariants.{Syntax};
 ghost use Rattle.gimple_tokens.specs.Found.{found, belongs};
 
 use crate::token::{Keyword, Mark, Suffix, TextKind, Token};
@@ -67,57 +68,65 @@ fn comment_bytes(bytes: &[u8]) -> usize
         .count()
 }
 
-// Most words differ from a keyword in the first byte.
-#[inline]
-fn is_text(word: &[u8], text: &[u8]) -> bool
-    ensures { result ≡ same_text word.now text.now }
+// A word that is no keyword.
+fn name_of(word: &[u8]) -> Token<'_>
+    ensures { lexeme_of result ≡ (if nat_lt 255 (length word.now) then Bad Syntax else Name word.now) }
 {
-    match (word.first(), text.first()) {
-        (Some(a), Some(b)) if *a != *b => false,
-        _ => word == text,
-    }
-}
-
-#[tactic(auto, unfolding(crate::specs::Tokens::word_of))]
-fn word_of(word: &[u8]) -> Token<'_>
-    ensures { lexeme_of result ≡ word_of word.now }
-{
-    if is_text(word, b"int".as_slice()) {
-        Token::Word(Keyword::Int)
-    } else if is_text(word, b"unsigned".as_slice()) {
-        Token::Word(Keyword::Unsigned)
-    } else if is_text(word, b"long".as_slice()) {
-        Token::Word(Keyword::Long)
-    } else if is_text(word, b"char".as_slice()) {
-        Token::Word(Keyword::Char)
-    } else if is_text(word, b"struct".as_slice()) {
-        Token::Word(Keyword::Struct)
-    } else if is_text(word, b"static".as_slice()) {
-        Token::Word(Keyword::Static)
-    } else if is_text(word, b"extern".as_slice()) {
-        Token::Word(Keyword::Extern)
-    } else if is_text(word, b"weak".as_slice()) {
-        Token::Word(Keyword::Weak)
-    } else if is_text(word, b"void".as_slice()) {
-        Token::Word(Keyword::Void)
-    } else if is_text(word, b"if".as_slice()) {
-        Token::Word(Keyword::If)
-    } else if is_text(word, b"else".as_slice()) {
-        Token::Word(Keyword::Else)
-    } else if is_text(word, b"goto".as_slice()) {
-        Token::Word(Keyword::Goto)
-    } else if is_text(word, b"switch".as_slice()) {
-        Token::Word(Keyword::Switch)
-    } else if is_text(word, b"case".as_slice()) {
-        Token::Word(Keyword::Case)
-    } else if is_text(word, b"default".as_slice()) {
-        Token::Word(Keyword::Default)
-    } else if is_text(word, b"return".as_slice()) {
-        Token::Word(Keyword::Return)
-    } else if word.len() > 255 {
+    if word.len() > 255 {
         Token::Bad(TextKind::Syntax)
     } else {
         Token::Name(word)
+    }
+}
+
+// The keyword, or else the word as a name.
+fn keyword_if<'a>(is_keyword: bool, keyword: Keyword, word: &'a [u8]) -> Token<'a>
+    ensures { lexeme_of result ≡ (if is_keyword then Word keyword else if nat_lt 255 (length word.now) then Bad Syntax else Name word.now) }
+{
+    if is_keyword {
+        Token::Word(keyword)
+    } else {
+        name_of(word)
+    }
+}
+
+// The word of this first byte and the rest: most words differ from all keywords in the first byte.
+#[tactic(auto, unfolding(crate::specs::Tokens::word_of))]
+fn word_of<'a>(first: u8, word: &'a [u8], rest: &'a [u8]) -> Token<'a>
+    requires { word.now ≡ first ∷ rest.now }
+    ensures { lexeme_of result ≡ word_of word.now }
+{
+    match first {
+        b'c' => if rest == b"har".as_slice() {
+            Token::Word(Keyword::Char)
+        } else {
+            keyword_if(rest == b"ase".as_slice(), Keyword::Case, word)
+        }
+        b'd' => keyword_if(rest == b"efault".as_slice(), Keyword::Default, word),
+        b'e' => if rest == b"xtern".as_slice() {
+            Token::Word(Keyword::Extern)
+        } else {
+            keyword_if(rest == b"lse".as_slice(), Keyword::Else, word)
+        }
+        b'g' => keyword_if(rest == b"oto".as_slice(), Keyword::Goto, word),
+        b'i' => if rest == b"nt".as_slice() {
+            Token::Word(Keyword::Int)
+        } else {
+            keyword_if(rest == b"f".as_slice(), Keyword::If, word)
+        }
+        b'l' => keyword_if(rest == b"ong".as_slice(), Keyword::Long, word),
+        b'r' => keyword_if(rest == b"eturn".as_slice(), Keyword::Return, word),
+        b's' => if rest == b"truct".as_slice() {
+            Token::Word(Keyword::Struct)
+        } else if rest == b"tatic".as_slice() {
+            Token::Word(Keyword::Static)
+        } else {
+            keyword_if(rest == b"witch".as_slice(), Keyword::Switch, word)
+        }
+        b'u' => keyword_if(rest == b"nsigned".as_slice(), Keyword::Unsigned, word),
+        b'v' => keyword_if(rest == b"oid".as_slice(), Keyword::Void, word),
+        b'w' => keyword_if(rest == b"eak".as_slice(), Keyword::Weak, word),
+        _ => name_of(word),
     }
 }
 
@@ -204,7 +213,7 @@ fn word_at<'a>(first: u8, text: &'a [u8], after: &'a [u8]) -> Found<'a>
     ensures within { belongs result ≤ length after.now }
 {
     let len = word_bytes(after);
-    Found::Whole(word_of(&text[..len + 1]), len)
+    Found::Whole(word_of(first, &text[..len + 1], &after[..len]), len)
 }
 
 fn is_led_by_zero(first: u8, more: usize) -> bool

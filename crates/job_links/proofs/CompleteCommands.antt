@@ -1,9 +1,9 @@
 -- What is answered where no count of faults rises.
-use Rattle.std.proofs.Common.{◌≡◌, ℕ, ◌+◌, ◌<◌, ◌≤◌, ◌^◌, ◌-◌, min, List, [], ◌∷◌, Option, Some, None, Result, Ok, Err, sym, ◌∙◌, ap, refl, subst, arith, length}
+use Rattle.std.proofs.Common.{◌≡◌, ℕ, ◌≤◌, List, [], ◌∷◌, Option, Some, None, Result, Ok, Err, sym, ◌∙◌, ap, refl, arith, length}
 use Rattle.std.specs.Prelude.{sum_by, IfSome, IfOk, IfErr}
 use Rattle.std.specs.List.{AllZip}
 use Rattle.std.proofs.lemmas.List.Sums.{sum_by-cons}
-use Rattle.outer_files.specs.Outside.{Contents, IsLonger, Rose, RoseBy, WhereTold}
+use Rattle.outer_files.specs.Outside.{Contents, Rose, RoseBy, WhereTold}
 use Rattle.whopr_words.specs.declared.job_file.Job.{Job}
 use Rattle.whopr_words.specs.declared.job_file.Jobs.{Jobs}
 use Rattle.whopr_words.specs.Jobs.{jobs_in}
@@ -13,7 +13,7 @@ use Rattle.job_links.specs.declared.line.Report.{Report}
 use Rattle.job_links.specs.declared.line.JobsRefusal.{JobsRefusal}
 use Rattle.job_links.specs.declared.line.JobsRefusal.TheVariants as refusal
 use Rattle.job_links.specs.Reads.{batch_of}
-use Rattle.job_links.specs.Answers.{IsAnswered, AreAnswered, AreJobs, AreNoJobs, AreTooLarge, IsCause, IsValid, IsLineOf, IsComplete, failures_in}
+use Rattle.job_links.specs.Answers.{IsAnswered, AreAnswered, AreJobs, IsCause, IsValid, IsLineOf, IsComplete, failures_in}
 
 -- ---- a job without a failure
 

@@ -1,17 +1,15 @@
 -- The jobs that a text spells write different files.
-use Rattle.std.proofs.Common.{◌≡◌, ◌≢◌, ℕ, zero, suc, List, [], ◌∷◌, ◌++◌, Option, Some, None, Result, Ok, Err, Bool, true, false, not, ◌&&◌, sym, ◌∙◌, ap, refl, arith, subst}
+use Rattle.std.proofs.Common.{◌≡◌, ◌≢◌, ℕ, zero, suc, List, [], ◌∷◌, ◌++◌, Option, Some, None, Result, Ok, Err, Bool, true, false, not, ◌&&◌, sym, refl, arith, subst}
 use Rattle.std.specs.Prelude.{All, nat_le, codes, ◌+◌}
 use Rattle.std.proofs.lemmas.List.Elements.{All-append}
-use Rattle.std.proofs.lemmas.Grind.{common_steps}
-use Rattle.std.specs.Str.{bytes_eq}
 use Rattle.std.proofs.lemmas.Slice.Eq.{bytes_eq-Decides}
 use Rattle.text_lines.specs.Lines.{Lines, lines_in}
 use Rattle.text_lines.specs.Words.{words_of, name_of}
-use Rattle.text_lines.specs.Reading.{line_by, line_from, taken, ◌then◌, counted, at_end, end_from}
+use Rattle.text_lines.specs.Reading.{line_by, line_from, taken, ◌then◌, counted, end_from}
 use Rattle.whopr_words.specs.declared.job_file.Job.{Job}
 use Rattle.whopr_words.specs.declared.job_file.Jobs.{Jobs}
 use Rattle.whopr_words.specs.WordReading.{◌>>=◌, when, is_nil, word_is, first_by, number_by}
-use Rattle.whopr_words.specs.Jobs.{options_by, stands_before, workers_of, is_allowed, link_of, link_at, link_by, object_at, job_of, job_by, links_after, batch_at, jobs_by, with_fault, jobs_in}
+use Rattle.whopr_words.specs.Jobs.{options_by, stands_before, workers_of, is_allowed, link_of, link_at, link_by, object_at, job_by, links_after, batch_at, jobs_by, with_fault, jobs_in}
 use Rattle.job_links.specs.Answers.{AreDistinct}
 use Rattle.job_links.proofs.Answered.{all_head, all_tail}
 

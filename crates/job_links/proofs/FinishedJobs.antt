@@ -1,5 +1,5 @@
 -- A job that is linked from its files, and whose image is written.
-use Rattle.std.proofs.Common.{◌≡◌, ℕ, List, Option, Result, Ok, Err, true, false, sym, refl, subst, ap, arith, length, Vec}
+use Rattle.std.proofs.Common.{◌≡◌, ℕ, List, Option, Result, Ok, Err, true, sym, refl, subst, arith, length, Vec}
 use Rattle.std.specs.declared.alloc.Global.{Global}
 use Rattle.outer_files.specs.Outside.{Contents, WhereTold, Writes, WritesPrefix, OthersStand}
 use Rattle.whopr_words.specs.declared.job_file.Job.{Job}
@@ -11,7 +11,7 @@ use Rattle.job_links.specs.declared.reading.ReadsFault.TheVariants as reads
 use Rattle.job_links.specs.Reads.{files_by, GivesFiles}
 use Rattle.job_links.specs.Alone.{Refuses, prepared_by, ComesTo, Alone}
 use Rattle.job_links.specs.Answers.{IsImage, GivesImage, IsAnswered}
-use Rattle.job_links.specs.Linking.{GivesImageOf, IsOutcome, IsFinished, is_own, is_refusal}
+use Rattle.job_links.specs.Linking.{GivesImageOf, IsOutcome, IsFinished, is_own}
 use Rattle.job_links.proofs.Told.{told_same, told_weaker}
 
 -- ---- what a job comes to

@@ -1,6 +1,6 @@
 -- What the files of a job come to, once they are read, and merged or linked.
-use Rattle.std.proofs.Common.{◌≡◌, ℕ, List, length, refl, sym, ap₂, subst}
-use Rattle.std.specs.Prelude.{All, Result, Ok, Err}
+use Rattle.std.proofs.Common.{◌≡◌, ℕ, List, length, sym, ap₂, subst}
+use Rattle.std.specs.Prelude.{All, Result, Ok}
 use Rattle.func_summary.specs.Summarised.{IsSummarised}
 use Rattle.gimple_ir.specs.declared.types.Program.{Program}
 use Rattle.gimple_ir.specs.declared.merged.Merged.{Merged}
@@ -8,14 +8,13 @@ use Rattle.lto_object.specs.Objects.{ObjectData, IsObject}
 use Rattle.link_laws.specs.Laws.{LinkedLoads, LinkedFollows}
 use Rattle.plain_link.specs.Linking.{IsLinked}
 use Rattle.resolution_text.specs.declared.resolution.Resolution.{Resolution}
-use Rattle.resolution_text.specs.declared.fault.ResolutionError.{ResolutionError}
 use Rattle.resolution_text.specs.Reading.{resolution_in}
 use Rattle.symbol_resolution.specs.Merging.{AreFew, merged_of, program_of}
 use Rattle.symbol_resolution.specs.Laws.{MergedLaw}
 use Rattle.job_links.specs.declared.line.JobLine.{JobLine}
 use Rattle.job_links.specs.declared.reading.JobFiles.{JobFiles}
 use Rattle.job_links.specs.Alone.{Gives, Outcome, Prepared, LinksTo, ComesTo, prepared_with, prepared_of, objects_from}
-use Rattle.job_links.specs.Answers.{IsFaithful, IsImage}
+use Rattle.job_links.specs.Answers.{IsImage}
 use Rattle.job_links.specs.MergedJobs.{IsMergedJob}
 
 abbrev prepared_as : List ObjectData → Resolution → Prepared

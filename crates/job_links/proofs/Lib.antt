@@ -1,10 +1,12 @@
 pub mod Told
 pub mod ReadingFiles
+pub mod LeastRead
 pub mod DistinctJobs
 pub mod ObjectsInOrder
 pub mod Answered
 pub mod FinishedJobs
 pub mod LinkedFiles
 pub mod Counted
+pub mod Batches
 pub mod CompleteCommands
 pub mod JobImages

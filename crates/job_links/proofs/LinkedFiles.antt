@@ -1,7 +1,6 @@
 -- What the files of a job come to, by the steps of linking them.
-use Rattle.std.proofs.Common.{◌≡◌, ℕ, List, Result, Ok, Err, sym, ◌∙◌, ap, refl, subst, arith, length, Vec}
+use Rattle.std.proofs.Common.{◌≡◌, ℕ, List, Result, Ok, Err, sym, refl, subst, length}
 use Rattle.std.specs.Prelude.{All}
-use Rattle.std.specs.declared.alloc.Global.{Global}
 use Rattle.lto_object.specs.Objects.{ObjectData, IsObject}
 use Rattle.resolution_text.specs.declared.resolution.Resolution.{Resolution}
 use Rattle.resolution_text.specs.declared.fault.ResolutionError.{ResolutionError}
@@ -14,7 +13,7 @@ use Rattle.link_laws.specs.Laws.{LinkedLoads, LinkedFollows}
 use Rattle.job_links.specs.declared.line.JobLine.{JobLine}
 use Rattle.job_links.specs.declared.line.JobLine.TheVariants.{Done, Object, TooLong, Limit, Read, Write, Memory, Unresolved}
 use Rattle.job_links.specs.declared.reading.JobFiles.{JobFiles}
-use Rattle.job_links.specs.Alone.{Outcome, Gives, Refuses, Prepared, objects_from, prepared_with, prepared_of, LinksTo, ComesTo}
+use Rattle.job_links.specs.Alone.{Outcome, Gives, Refuses, Prepared, objects_from, prepared_of, LinksTo, ComesTo}
 use Rattle.job_links.specs.Answers.{IsImage}
 use Rattle.job_links.specs.Linking.{GivesObjects, GivesResolution, GivesImageOf}
 

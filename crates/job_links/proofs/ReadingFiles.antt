@@ -1,15 +1,14 @@
 -- Files that are read one after the other, up to the first that can't be.
-use Rattle.std.proofs.Common.{◌≡◌, ℕ, suc, ◌+◌, ◌<◌, ◌≤◌, List, [], ◌∷◌, ◌++◌, Option, Some, None, Result, Ok, Err, Bool, true, false, cond, nat_lt, sym, ◌∙◌, ap, refl, arith, length, take, drop, get_or, subst}
-use Rattle.std.specs.Prelude.{All, IsSomeAnd}
+use Rattle.std.proofs.Common.{◌≡◌, ℕ, suc, ◌+◌, ◌<◌, ◌≤◌, List, [], ◌∷◌, ◌++◌, Option, Some, None, Result, Ok, Err, sym, ◌∙◌, ap, refl, arith, length, take, drop, get_or, subst}
+use Rattle.std.specs.Prelude.{All}
 use Rattle.std.proofs.lemmas.List.{append_assoc, append-nil, at_drop_more, drop_all, take-append-le, length-append}
 use Rattle.std.proofs.lemmas.List.Elements.{All-more}
 use Rattle.std.proofs.Math.Seq.{take-append_seam}
-use Rattle.std.proofs.lemmas.Grind.{common_steps}
 use Rattle.outer_files.specs.Outside.{Contents}
 use Rattle.whopr_words.specs.declared.job_file.Job.{Job}
 use Rattle.job_links.specs.declared.reading.ReadsFault.{ReadsFault}
 use Rattle.job_links.specs.declared.reading.ReadsFault.TheVariants.{Failed, TooLong, NoMemory}
-use Rattle.job_links.specs.Reads.{IsWithin, IsReached, file_by, contents_with, contents_from, files_with, files_by, GivesFile, GivesFiles, size_by, size_of, reads_of}
+use Rattle.job_links.specs.Reads.{IsWithin, IsReached, file_by, contents_with, contents_from, GivesFile, GivesFiles, size_by, size_of, reads_of}
 
 abbrev pub Found : Type 0
 Found = Result (List (List ℕ)) ReadsFault
@@ -83,7 +82,7 @@ all_so_far limit held names done n past h =
 
 -- ---- the sizes
 
-size_next : (limit : ℕ) (held : Contents) (names : List (List ℕ)) (n : ℕ) (name : List ℕ) → n < length names → name ≡ get_or names n name
+pub size_next : (limit : ℕ) (held : Contents) (names : List (List ℕ)) (n : ℕ) (name : List ℕ) → n < length names → name ≡ get_or names n name
     → size_of limit held (drop n names) ≡ size_by limit (held name) (size_of limit held (drop (n + 1) names))
 size_next limit held names n name lt is = at_drop_more (λ rest. size_of limit held rest) names n name lt ∙ rw (← is) refl
 
@@ -138,13 +137,14 @@ pub size_front : (limit : ℕ) (held : Contents) (names more : List (List ℕ)) 
 size_front limit held [] more = omega arith
 size_front limit held (name ∷ names) more = size_grows limit (held name) (size_of limit held names) (size_of limit held (names ++ more)) (size_front limit held names more)
 
-pub size_behind : (limit : ℕ) (held : Contents) (names : List (List ℕ)) (last : List ℕ) → All (λ name. IsWithin limit (held name)) names
-    → size_of limit held (names ++ last ∷ []) ≡ size_of limit held names + size_by limit (held last) 0
-size_behind limit held [] last within = omega arith
-size_behind limit held (name ∷ names) last within =
+-- what is read of files behind some that can be read
+pub size_append : (limit : ℕ) (held : Contents) (names more : List (List ℕ)) → All (λ name. IsWithin limit (held name)) names
+    → size_of limit held (names ++ more) ≡ size_of limit held names + size_of limit held more
+size_append limit held [] more within = omega arith
+size_append limit held (name ∷ names) more within =
     let first : IsWithin limit (held name) = within 0 name (omega arith) in
     let others : All (λ other. IsWithin limit (held other)) names = λ k d lt. within (suc k) d (omega (arith, lt)) in
-    omega (arith, size_with limit (held name) (size_of limit held names) first, size_with limit (held name) (size_of limit held (names ++ last ∷ [])) first, size_behind limit held names last others)
+    omega (arith, size_with limit (held name) (size_of limit held names) first, size_with limit (held name) (size_of limit held (names ++ more)) first, size_append limit held names more others)
 
 -- the resolution can't be read
 pub resolution_fault : (limit : ℕ) (held : Contents) (job : Job) (contents : List (List ℕ)) (place : ℕ) (fault : ReadsFault) → contents_from 0 limit held job.objects ≡ Ok contents

@@ -1,8 +1,7 @@
 -- What is said of jobs, and what the files hold afterwards.
-use Rattle.std.specs.Prelude.{◌≡◌, ◌≢◌, ℕ, ◌+◌, ◌<◌, ◌≤◌, ◌^◌, List, [], ◌∷◌, length, take, All, sum_by, Option, Some, unwrap_or, Result, Ok, Err, Vec}
+use Rattle.std.specs.Prelude.{◌≡◌, ◌≢◌, ℕ, ◌+◌, ◌<◌, ◌≤◌, ◌^◌, List, [], ◌∷◌, length, take, All, Option, Some, unwrap_or, Result, Ok, Err}
 use Rattle.std.specs.List.{AllZip}
-use Rattle.std.specs.declared.alloc.Global.{Global}
-use Rattle.outer_files.specs.Outside.{Contents, IsLonger, Rose}
+use Rattle.outer_files.specs.Outside.{Contents, IsLonger}
 use Rattle.gimple_ir.specs.declared.merged.Merged.{Merged}
 use Rattle.follow_laws.specs.Follows.{Follows}
 use Rattle.link_laws.specs.Laws.{IsLoadable}
@@ -16,9 +15,8 @@ use Rattle.job_links.specs.declared.line.JobLine.TheVariants.{Done, Object, TooL
 use Rattle.job_links.specs.declared.line.Report.{Report}
 use Rattle.job_links.specs.declared.line.JobsRefusal.{JobsRefusal}
 use Rattle.job_links.specs.declared.line.JobsRefusal.TheVariants as refusal
-use Rattle.job_links.specs.declared.reading.JobFiles.{JobFiles}
-use Rattle.job_links.specs.Reads.{reads_of, files_by, IsReached, batch_of}
-use Rattle.job_links.specs.Alone.{Gives, Refuses, Prepared, prepared_of, prepared_by, ComesTo, Alone}
+use Rattle.job_links.specs.Reads.{reads_of, files_by, IsReached, size_of, sizes_of, batch_of}
+use Rattle.job_links.specs.Alone.{Gives, Refuses, Prepared, prepared_by, ComesTo, Alone}
 
 -- ---- one job
 
@@ -74,6 +72,24 @@ failures_in (Read place) = 1
 failures_in Write = 1
 failures_in Memory = 0
 failures_in (Unresolved fault) = 0
+
+-- the store did not fail at a read of the job's files, and there was memory
+abbrev pub WasRead : JobLine → Type 0
+WasRead (Read place) = ⊥
+WasRead Memory = ⊥
+WasRead line = Unit {0}
+
+-- how many bytes were read of the job's files, by its line; one for want of memory does not tell
+abbrev pub size_told : ℕ → Contents → Job → JobLine → ℕ
+size_told limit held job (Read place) = size_of limit held (take place (reads_of job))
+size_told limit held job Memory = 0
+size_told limit held job line = sizes_of limit held job
+
+-- those of all jobs
+abbrev pub batch_told : ℕ → Contents → List Job → List JobLine → ℕ
+batch_told limit held [] lines = 0
+batch_told limit held (job ∷ jobs) [] = 0
+batch_told limit held (job ∷ jobs) (line ∷ lines) = size_told limit held job line + batch_told limit held jobs lines
 
 -- no two jobs write the same file
 abbrev pub AreDistinct : List Job → Type 0

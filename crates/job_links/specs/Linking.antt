@@ -1,5 +1,5 @@
 -- What the steps of the command give.
-use Rattle.std.specs.Prelude.{◌≡◌, ℕ, ◌+◌, ◌≤◌, ◌^◌, ◌-◌, List, length, All, Bool, true, false, Option, Result, Ok, Err, Vec}
+use Rattle.std.specs.Prelude.{◌≡◌, ℕ, ◌+◌, ◌≤◌, ◌^◌, ◌-◌, List, length, All, Bool, true, false, Result, Ok, Err, IsOk, Vec}
 use Rattle.std.specs.declared.alloc.Global.{Global}
 use Rattle.outer_files.specs.Outside.{Contents, RoseBy}
 use Rattle.lto_object.specs.Objects.{ObjectData}
@@ -12,6 +12,7 @@ use Rattle.job_links.specs.declared.line.JobLine.{JobLine}
 use Rattle.job_links.specs.declared.line.JobLine.TheVariants.{Done, Object, TooLong, Limit, Read, Write, Memory, Unresolved}
 use Rattle.job_links.specs.declared.reading.JobFiles.{JobFiles}
 use Rattle.job_links.specs.declared.reading.ReadsFault.{ReadsFault}
+use Rattle.job_links.specs.declared.reading.ReadsFault.TheVariants as reads
 use Rattle.job_links.specs.Reads.{GivesFiles}
 use Rattle.job_links.specs.Alone.{Refuses, prepared_of, ComesTo}
 use Rattle.job_links.specs.Answers.{IsImage, GivesImage, IsAnswered, AreDistinct}
@@ -75,6 +76,14 @@ IsFinished limit job reading line old new =
 -- so many failures more than there were
 abbrev pub IsCounted : ℕ → ℕ → ℕ → ℕ → Type 0
 IsCounted before now faults_before faults_now = (more : ℕ) × (now ≡ before + more) × RoseBy more faults_before faults_now
+
+-- What a line tells of the reading of the job's files: the first that could not be read, or that one is too long, or else that all were
+-- read. One for want of memory tells nothing.
+abbrev pub Tells : Result JobFiles ReadsFault → JobLine → Type 0
+Tells reading (Read place) = reading ≡ Err (reads.Failed place)
+Tells reading TooLong = reading ≡ Err reads.TooLong
+Tells reading Memory = Unit {0}
+Tells reading line = IsOk reading
 
 -- no two jobs that a text spells write the same file
 abbrev pub JobsAreDistinct : Type 0

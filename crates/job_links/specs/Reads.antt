@@ -94,3 +94,21 @@ sizes_of limit held job = size_of limit held (reads_of job)
 -- those of all jobs
 abbrev pub batch_of : ℕ → Contents → List Job → ℕ
 batch_of limit held jobs = sum_by (λ job. sizes_of limit held job) jobs
+
+-- those of the one file of which this is what reading gave
+abbrev pub size_read : Result (List ℕ) ReadsFault → ℕ
+size_read (Ok bytes) = length bytes
+size_read (Err fault) = 0
+
+-- those of files of which this is what reading gave, at the least: where there was no memory, it is not told how many were read
+abbrev pub size_given : {A : Type 0} → ℕ → Contents → List (List ℕ) → Result A ReadsFault → ℕ
+size_given limit held names (Ok a) = size_of limit held names
+size_given limit held names (Err (Failed place)) = size_of limit held (take place names)
+size_given limit held names (Err TooLong) = size_of limit held names
+size_given limit held names (Err NoMemory) = 0
+
+-- those of all jobs
+abbrev pub batch_given : ℕ → Contents → List Job → List (Result JobFiles ReadsFault) → ℕ
+batch_given limit held [] readings = 0
+batch_given limit held (job ∷ jobs) [] = 0
+batch_given limit held (job ∷ jobs) (reading ∷ readings) = size_given limit held (reads_of job) reading + batch_given limit held jobs readings

@@ -1,10 +1,10 @@
 //! Linking each job alone, and writing its image.
-ghost use Rattle.std.specs.Prelude.{◌≡◌, ◌≤◌, ◌+◌, ◌^◌, ◌-◌, IfErr, IfOk, IsErr, length, sum_by, true};
+ghost use Rattle.std.specs.Prelude.{◌≡◌, ◌≤◌, ◌+◌, ◌^◌, ◌-◌, IfErr, IfOk, IsErr, IsOk, length, sum_by, true};
 ghost use Rattle.std.specs.List.{AllZip};
 ghost use Rattle.outer_files.specs.Outside.{Contents, WhereTold, OthersStand, RoseBy};
 ghost use Rattle.job_links.specs.Reads.{GivesFiles, IsSuited, failures};
 ghost use Rattle.job_links.specs.Answers.{IsAnswered, AreAnswered, AreDistinct, failures_in};
-ghost use Rattle.job_links.specs.Linking.{IsOutcome, IsFinished, IsCounted, is_refusal};
+ghost use Rattle.job_links.specs.Linking.{IsOutcome, IsFinished, IsCounted, Tells, is_refusal};
 
 use crate::line::JobLine;
 use crate::linking::link_files;
@@ -27,6 +27,8 @@ fn link_job(
     ensures counted { IfErr result (λ line. failures_in line ≡ failures reading.now) }
     ensures fewer { IfOk result (λ image. failures reading.now ≡ 0) }
     ensures refusal { IfErr result (λ line. is_refusal line ≡ true) }
+    ensures told { IfErr result (λ line. Tells reading.now line) }
+    ensures read { IfOk result (λ image. IsOk reading.now) }
 {
     match reading {
         Ok(files) => link_files(alloc, job.objects.as_slice(), files),
@@ -50,6 +52,7 @@ fn finish<F: FileStore>(
     ensures answered { WhereTold (F.held files.old) (F.held files.new) (IsFinished limit job.now reading.now result) }
     ensures never_falls { F.faults files.old ≤ F.faults files.new }
     ensures counted { IsCounted (failures reading.now) (failures_in result) (F.faults files.old) (F.faults files.new) }
+    ensures told { Tells reading.now result }
 {
     let image = match link_job(alloc, job, reading, limit) {
         Ok(image) => image,
@@ -79,6 +82,7 @@ pub fn finish_each<F: FileStore>(
     ensures count { IfOk result (λ lines. length lines ≡ length jobs.now) }
     ensures never_falls { F.faults files.old ≤ F.faults files.new }
     ensures counted { IfOk result (λ lines. IsCounted (sum_by failures readings.now) (sum_by failures_in lines) (F.faults files.old) (F.faults files.new)) }
+    ensures told { IfOk result (λ lines. AllZip Tells readings.now lines) }
 {
     let mut lines = Vec::with_capacity(alloc, jobs.len())?;
     for (place, job) in jobs.iter().enumerate() {

@@ -2,7 +2,7 @@
 ghost use Rattle.std.specs.Prelude.{◌≡◌, ◌≤◌, ◌+◌, All, IfOk, IfSome, length, sum_by};
 ghost use Rattle.std.specs.List.{AllZip};
 ghost use Rattle.outer_files.specs.Outside.{RoseBy};
-ghost use Rattle.job_links.specs.Reads.{GivesFile, GivesContents, GivesFiles, IsSuited, failures, size_by, size_of, sizes_of, batch_of};
+ghost use Rattle.job_links.specs.Reads.{GivesFile, GivesContents, GivesFiles, IsSuited, failures, size_by, size_of, sizes_of, batch_of, size_read, size_given, batch_given, reads_of};
 
 use gimple_ir::{List, Name, NoMemory};
 use outer_files::{FileStore, ReadFault};
@@ -42,6 +42,7 @@ fn read_file<F: FileStore>(
     ensures never_falls { F.faults files.old ≤ F.faults files.new }
     ensures counted { RoseBy (failures result) (F.faults files.old) (F.faults files.new) }
     ensures size { IfSome (F.held files.old) (λ held. total.new ≤ total.old + size_by limit (held name.now) 0) }
+    ensures least { RoseBy (size_read result) total.old total.new }
 {
     match files.read_all(alloc, name.as_str(), limit) {
         Ok(bytes) => {
@@ -69,6 +70,7 @@ fn read_objects<F: FileStore>(
     ensures never_falls { F.faults files.old ≤ F.faults files.new }
     ensures counted { RoseBy (failures result) (F.faults files.old) (F.faults files.new) }
     ensures size { IfSome (F.held files.old) (λ held. total.new ≤ total.old + size_of limit held names.now) }
+    ensures least { IfSome (F.held files.old) (λ held. RoseBy (size_given limit held names.now result) total.old total.new) }
 {
     let mut contents: List<List<u8>> = List::new(alloc);
     for (place, name) in names.iter().enumerate() {
@@ -94,6 +96,7 @@ fn read_job<F: FileStore>(
     ensures never_falls { F.faults files.old ≤ F.faults files.new }
     ensures counted { RoseBy (failures result) (F.faults files.old) (F.faults files.new) }
     ensures size { IfSome (F.held files.old) (λ held. total.new ≤ total.old + sizes_of limit held job.now) }
+    ensures least { IfSome (F.held files.old) (λ held. RoseBy (size_given limit held (reads_of job.now) result) total.old total.new) }
 {
     let objects = match read_objects(alloc, job.objects.as_slice(), limit, total, files) {
         Ok(objects) => objects,
@@ -123,6 +126,7 @@ pub fn read_each<F: FileStore>(
     ensures never_falls { F.faults files.old ≤ F.faults files.new }
     ensures counted { IfOk result (λ readings. RoseBy (sum_by failures readings) (F.faults files.old) (F.faults files.new)) }
     ensures size { IfSome (F.held files.old) (λ held. total.new ≤ total.old + batch_of limit held jobs.now) }
+    ensures least { IfOk result (λ readings. IfSome (F.held files.old) (λ held. RoseBy (batch_given limit held jobs.now readings) total.old total.new)) }
 {
     let mut readings: List<Result<JobFiles, ReadsFault>> = List::new(alloc);
     for job in jobs {

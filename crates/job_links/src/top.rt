@@ -1,7 +1,8 @@
 //! The command that links the jobs of a job file.
-ghost use Rattle.std.specs.Prelude.{◌≡◌, ◌≤◌, ◌^◌, ◌-◌, IfErr, IfOk, IfSome, IsErr, IsErrOf, length, sum_by};
+ghost use Rattle.std.specs.Prelude.{◌≡◌, ◌≤◌, ◌^◌, ◌-◌, All, IfErr, IfOk, IfSome, IsErr, IsErrOf, length, sum_by};
 ghost use Rattle.outer_files.specs.Outside.{WhereTold, Rose, RoseBy};
-ghost use Rattle.job_links.specs.Answers.{AreAnswered, AreJobs, IsCause, IsComplete, failures_in};
+ghost use Rattle.job_links.specs.Reads.{batch_of};
+ghost use Rattle.job_links.specs.Answers.{AreAnswered, AreJobs, IsCause, IsComplete, WasRead, batch_told, failures_in};
 
 use crate::distinct::jobs_are_distinct;
 use crate::finishing::finish_each;
@@ -26,6 +27,7 @@ fn link_all<F: FileStore>(
     ensures answered { IfOk result (λ report. WhereTold (F.held files.old) (F.held files.new) (AreAnswered limit report.jobs.links report.lines)) }
     ensures count { IfOk result (λ report. length report.lines ≡ length report.jobs.links) }
     ensures counted { IfOk result (λ report. RoseBy (sum_by failures_in report.lines) (F.faults files.old) (F.faults files.new)) }
+    ensures read { IfOk result (λ report. IfSome (F.held files.old) (λ held. batch_told limit held report.jobs.links report.lines ≤ 2 ^ 28)) }
     ensures cause { IfErr result (λ refusal. IfSome (F.held files.old) (λ held. IsCause limit held jobs.now refusal)) }
     ensures failed { IsErrOf result JobsRefusal.Read → Rose (F.faults files.old) (F.faults files.new) }
     ensures refused { IsErr result → F.held files.new ≡ F.held files.old }
@@ -77,6 +79,10 @@ pub fn link_jobs<F: FileStore>(
 
     // There are no more lines of files that could not be read or written than the store's count of faults rose.
     ensures counted { IfOk result (λ report. RoseBy (sum_by failures_in report.lines) (F.faults files.old) (F.faults files.new)) }
+
+    // What was read, as the lines tell, is not too large together; nor are all files, where each could be read.
+    ensures read { IfOk result (λ report. IfSome (F.held files.old) (λ held. batch_told limit held report.jobs.links report.lines ≤ 2 ^ 28)) }
+    ensures small { IfOk result (λ report. IfSome (F.held files.old) (λ held. All WasRead report.lines → batch_of limit held report.jobs.links ≤ 2 ^ 28)) }
 
     // The whole command is refused for a cause, and leaves the files as they were.
     ensures cause { IfErr result (λ refusal. IfSome (F.held files.old) (λ held. IsCause limit held jobs.now refusal)) }

@@ -1,13 +1,12 @@
-use Rattle.std.proofs.Common.{◌≡◌, ◌∙◌, ◌++◌, ◌∷◌, [], ◌<◌, ◌≤◌, ◌+◌, ap, sym, subst, arith, length, take}
-use Rattle.std.specs.List.{AllZip}
+use Rattle.std.proofs.Common.{◌≡◌, ◌++◌, ◌∷◌, [], ◌<◌, arith, length}
 use Rattle.std.proofs.lemmas.Grind.{common_steps}
 use Rattle.std.proofs.lemmas.List.{take_all}
 use Rattle.std.proofs.lemmas.Slice.Zip.{AllZip-long}
-use Rattle.whopr_words.specs.declared.job_file.Job.{Job}
-use Rattle.job_links.specs.Reads.{GivesFiles, IsSuited, failures}
-use Rattle.job_links.specs.Answers.{AreAnswered, failures_in}
+use Rattle.job_links.specs.Reads.{IsSuited, failures}
+use Rattle.job_links.specs.Answers.{failures_in}
+use Rattle.job_links.specs.Linking.{Tells}
 use Rattle.job_links.proofs.Counted.{counted_more, counted_all}
-use Rattle.job_links.proofs.Answered.{zip_at, told_more}
+use Rattle.job_links.proofs.Answered.{zip_at, zip_more, told_more}
 use Rattle.job_links.proofs.finishing.finish_each.Goals as goal
 
 pub bounds-readings-place : goal.bounds-readings-place
@@ -39,6 +38,7 @@ loop-place-preserved g c =
       room = omega (arith, c.loop-place.invariant.room, c.push.ensures.capacity);
       never_falls = omega (arith, c.finish-line.ensures.never_falls, c.loop-place.invariant.never_falls);
       counted = rw pushed (counted_more failures failures_in readings before i reading line _ _ _ below c.index-readings-place.is c.loop-place.invariant.counted c.finish-line.ensures.counted);
+      told = rw pushed (zip_more Tells readings before i reading line below c.index-readings-place.is c.loop-place.invariant.told c.finish-line.ensures.told);
       answered = rw pushed (told_more limit jobs readings before i job reading line _ _ _ c.requires.distinct lt c.index-jobs-place.is c.index-readings-place.is
           c.loop-place.invariant.answered c.finish-line.ensures.others c.finish-line.ensures.answered);
     }
@@ -55,3 +55,10 @@ returns-clause-counted g c =
     let readings = c.args.readings.now in
     let long = AllZip-long _ c.args.jobs.now readings c.requires.suited in
     rw c.from_vec.ensures (counted_all failures readings c.loop-place.place _ _ _ (omega (arith, long, c.loop-place-test.false)) c.loop-place.invariant.counted)
+
+pub returns-clause-told : goal.returns-clause-told
+returns-clause-told g c =
+    let readings = c.args.readings.now in
+    let long = AllZip-long _ c.args.jobs.now readings c.requires.suited in
+    let all = take_all c.loop-place.place readings (omega (arith, long, c.loop-place-test.false)) in
+    rw c.from_vec.ensures (rw all at c.loop-place.invariant.told)

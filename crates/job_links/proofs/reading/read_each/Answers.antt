@@ -1,8 +1,10 @@
 use Rattle.std.proofs.Common.{◌≡◌, ◌∙◌, ◌++◌, ◌∷◌, [], ◌≤◌, ◌+◌, arith, take}
 use Rattle.std.proofs.lemmas.Grind.{common_steps}
-use Rattle.job_links.specs.Reads.{GivesFiles, IsSuited, failures, sizes_of, batch_of}
+use Rattle.outer_files.specs.Outside.{RoseBy}
+use Rattle.job_links.specs.Reads.{GivesFiles, IsSuited, failures, sizes_of, batch_of, size_given, batch_given, reads_of}
 use Rattle.job_links.proofs.Told.{told_2, told_there}
 use Rattle.job_links.proofs.Counted.{sum_push, sum_more, rose_then}
+use Rattle.job_links.proofs.LeastRead.{given_more}
 use Rattle.job_links.proofs.Answered.{zip_more}
 use Rattle.job_links.proofs.reading.read_each.Goals as goal
 
@@ -31,4 +33,8 @@ loop-job-preserved g c =
       size = told_2 (λ held. between ≤ old + batch_of limit held (take i jobs)) (λ held. now ≤ between + sizes_of limit held job)
           (λ held. now ≤ old + batch_of limit held (take (i + 1) jobs)) _ (λ held size this. omega (arith, size, this, sum_more (sizes_of limit held) jobs i job lt is)) c.loop-job.invariant.size
           (told_there _ _ _ same c.read_job-reading.ensures.size);
+      least = rw pushed (told_2 (λ held. RoseBy (batch_given limit held (take i jobs) before) old between) (λ held. RoseBy (size_given limit held (reads_of job) reading) between now)
+          (λ held. RoseBy (batch_given limit held (take (i + 1) jobs) (before ++ reading ∷ [])) old now) _
+          (λ held least this. given_more limit held jobs before i job reading old between now lt is c.loop-job.invariant.suited least this) c.loop-job.invariant.least
+          (told_there _ _ _ same c.read_job-reading.ensures.least));
     }

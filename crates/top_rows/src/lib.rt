@@ -5,6 +5,10 @@
 #[cfg(test)]
 mod commands;
 #[cfg(test)]
+mod jobs;
+#[cfg(test)]
+mod objects;
+#[cfg(test)]
 mod programs;
 #[cfg(test)]
 mod resolutions;

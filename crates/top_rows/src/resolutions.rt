@@ -1,6 +1,7 @@
 // What `resolve` writes of objects, and each of its refusals.
+use crate::objects::{object_of, words_of};
 use outer_files::{MemoryFiles, MemorySink};
-use std::alloc::{AllocError, Global};
+use std::alloc::Global;
 use std::test::Fail;
 use whopr_top::plain;
 
@@ -11,34 +12,6 @@ const DEFINES: &str = "int f (int a) { __builtin_putchar (a); return a; }";
 const WEAK: &str = "weak int f (int a) { return a; }";
 
 const MAIN: &str = "int main () { __builtin_putchar (72); __builtin_putchar (105); return 7; }";
-
-fn words_of(alloc: Global, line: &str) -> Result<Vec<String>, AllocError> {
-    let mut words = Vec::new(alloc);
-    for word in line.split_whitespace() {
-        words.push(String::from_str(alloc, word)?)?;
-    }
-    Ok(words)
-}
-
-// The object of a text.
-fn object_of(alloc: Global, text: &str) -> Result<Vec<u8>, Fail> {
-    let held = vec![in alloc;
-        (
-            String::from_str(alloc, "t.g")?,
-            Vec::from_slice(alloc, text.as_bytes())?,
-        ),
-    ]?;
-    let mut files = MemoryFiles::new(held, Vec::new(alloc));
-    let mut out = MemorySink::new(Vec::new(alloc));
-    plain(
-        alloc,
-        &words_of(alloc, "lgen t.g t.o")?,
-        &mut files,
-        &mut out,
-    );
-    let object = files.held("t.o").ok_or("no object")?;
-    Ok(Vec::from_slice(alloc, object)?)
-}
 
 // A store that holds the objects of texts, and one that is no object.
 fn object_files(alloc: Global, fail: &[u64]) -> Result<MemoryFiles, Fail> {
@@ -132,13 +105,7 @@ fn resolutions(rt: HostRuntime) -> Result<(), Fail> {
 #[test]
 fn not_built(rt: HostRuntime) -> Result<(), Fail> {
     let alloc = rt.alloc();
-    for line in [
-        "interp j 9 i o",
-        "link j",
-        "batch j t",
-        "replay j s t",
-        "gen 1 1 p",
-    ] {
+    for line in ["batch j t", "replay j s t", "gen 1 1 p"] {
         let words = words_of(alloc, line)?;
         let mut files = object_files(alloc, &[])?;
         let mut out = MemorySink::new(Vec::new(alloc));

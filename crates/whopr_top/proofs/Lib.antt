@@ -3,3 +3,6 @@ pub mod ObjectImages
 pub mod ObjectsInOrder
 pub mod ReadingFiles
 pub mod Telling
+pub mod Reporting
+pub mod RunningJobs
+pub mod JobPrograms

@@ -4,7 +4,8 @@ use Rattle.std.specs.declared.alloc.Global.{Global}
 use Rattle.std.proofs.lemmas.List.{append_assoc, at_drop_more}
 use Rattle.std.proofs.lemmas.List.Sums.{sum_by-cons}
 use Rattle.std.proofs.lemmas.Bool.Decides.{nat_tests}
-use Rattle.std.specs.Prelude.{Bool, nat_le, sum_by}
+use Rattle.std.specs.Prelude.{Bool, nat_le, sum_by, All}
+use Rattle.std.proofs.lemmas.List.Elements.{All-append}
 use Rattle.gimple_ir.specs.declared.types.Module.{Module}
 use Rattle.lto_object.specs.declared.fault.ObjectFault.{ObjectFault}
 use Rattle.lto_object.specs.Objects.{ObjectData, IsObject}
@@ -71,3 +72,11 @@ pub size_over : (n left : ℕ) (cs : List (Vec ℕ Global)) (c : Vec ℕ Global)
     → nat_le (sum_by length (contents_of (drop n cs))) left ≡ whole → whole ≡ false
 size_over n left cs c whole lt is over h =
     sym h ∙ ap (λ s. nat_le s left) (sum_next n cs c lt is) ∙ le_over (length c.items) (sum_by length (contents_of (drop (n + 1) cs))) left over
+
+-- ---- one element more
+
+all_of_one : {A : Type 0} (P : A → Type 0) (x : A) → P x → All P (x ∷ [])
+all_of_one P x one = grind (arith, one)
+
+pub all_push : {A : Type 0} (P : A → Type 0) (xs : List A) (x : A) → All P xs → P x → All P (xs ++ x ∷ [])
+all_push P xs x all one = All-append P xs (x ∷ []) all (all_of_one P x one)

@@ -1,32 +1,33 @@
 -- Files that are read one after the other, up to the first that can't be.
-use Rattle.std.proofs.Common.{◌≡◌, ℕ, suc, ◌<◌, ◌≤◌, List, [], ◌∷◌, ◌++◌, Option, Some, None, sym, ◌∙◌, ap, inl, inr, refl, arith, ◌+◌, length, take, drop, get_or, string_bytes, String, subst}
+use Rattle.std.proofs.Common.{◌≡◌, ℕ, suc, ◌<◌, ◌≤◌, List, [], ◌∷◌, ◌++◌, Option, Some, None, sym, ◌∙◌, ap, inl, inr, refl, arith, ◌+◌, length, take, drop, get_or, subst}
 use Rattle.std.specs.Prelude.{IfSome}
-use Rattle.std.specs.declared.alloc.Global.{Global}
-use Rattle.std.proofs.lemmas.List.{take_more, map-append, take-append-drop}
+use Rattle.std.proofs.lemmas.List.{take_more, take-append-drop}
 use Rattle.std.proofs.Math.Seq.{drop-cons}
-use Rattle.outer_files.specs.Outside.{Contents, IsLonger}
-use Rattle.whopr_words.specs.Commands.{words_of}
+use Rattle.outer_files.specs.Outside.{Contents, IsLonger, Rose}
+use Rattle.whopr_top.specs.declared.reads.ReadsFault.{ReadsFault}
+use Rattle.whopr_top.specs.declared.reads.ReadsFault.TheVariants as reads
+use Rattle.whopr_top.specs.ReadFaults.{IsReadsFault, IsFailureAt}
 use Rattle.whopr_top.specs.Reads.{AreHeld, IsWithin, IsOverLimit, IsAbsent, IsReached}
 
-within_of : (limit : ℕ) (file : Option (List ℕ)) (bytes : List ℕ) → file ≡ Some bytes → length bytes ≤ limit → IsWithin limit file
+pub within_of : (limit : ℕ) (file : Option (List ℕ)) (bytes : List ℕ) → file ≡ Some bytes → length bytes ≤ limit → IsWithin limit file
 within_of limit file bytes is within = subst (IsWithin limit) (sym is) within
 
 -- ---- by what is held
 
-held_more : (limit : ℕ) (held : Contents) (names cs : List (List ℕ)) (name bytes : List ℕ) → AreHeld limit held names cs → held name ≡ Some bytes → length bytes ≤ limit
+pub held_more : (limit : ℕ) (held : Contents) (names cs : List (List ℕ)) (name bytes : List ℕ) → AreHeld limit held names cs → held name ≡ Some bytes → length bytes ≤ limit
     → AreHeld limit held (names ++ name ∷ []) (cs ++ bytes ∷ [])
 held_more limit held [] [] name bytes read is within = (is, within, tt)
 held_more limit held [] (c ∷ cs) name bytes read is within = absurd read
 held_more limit held (n ∷ names) [] name bytes read is within = absurd read
 held_more limit held (n ∷ names) (c ∷ cs) name bytes read is within = (read.0, read.1, held_more limit held names cs name bytes read.2 is within)
 
-reached_at : (limit : ℕ) (held : Contents) (before cs : List (List ℕ)) (name : List ℕ) (rest : List (List ℕ)) → AreHeld limit held before cs → IsReached limit held (before ++ name ∷ rest) name
+pub reached_at : (limit : ℕ) (held : Contents) (before cs : List (List ℕ)) (name : List ℕ) (rest : List (List ℕ)) → AreHeld limit held before cs → IsReached limit held (before ++ name ∷ rest) name
 reached_at limit held [] [] name rest read = inl refl
 reached_at limit held [] (c ∷ cs) name rest read = absurd read
 reached_at limit held (n ∷ before) [] name rest read = absurd read
 reached_at limit held (n ∷ before) (c ∷ cs) name rest read = inr (within_of limit (held n) c read.0 read.1, reached_at limit held before cs name rest read.2)
 
-over_at : (limit : ℕ) (held : Contents) (before cs : List (List ℕ)) (name : List ℕ) (rest : List (List ℕ)) → AreHeld limit held before cs → IsLonger limit (held name)
+pub over_at : (limit : ℕ) (held : Contents) (before cs : List (List ℕ)) (name : List ℕ) (rest : List (List ℕ)) → AreHeld limit held before cs → IsLonger limit (held name)
     → IsOverLimit limit held (before ++ name ∷ rest)
 over_at limit held [] [] name rest read long = inl long
 over_at limit held [] (c ∷ cs) name rest read long = absurd read
@@ -55,17 +56,23 @@ told_over limit (Some held) between before cs name rest all same split read long
     subst (λ (names : List (List ℕ)). IsOverLimit limit held names) (sym split)
     (over_at limit held before cs name rest read (subst (λ (o : Option Contents). IfSome o (λ held. IsLonger limit (held name))) same long))
 
--- ---- the words up to the next one, and with those behind it
+-- ---- the names up to the next one, and with those behind it
 
-pub words_more : (ws : List (String Global)) (i : ℕ) (w : String Global) → i < length ws → w ≡ get_or ws i w → words_of (take (i + 1) ws) ≡ words_of (take i ws) ++ string_bytes w ∷ []
-words_more ws i w lt is = rw (take_more ws i w lt, ← is) (map-append (λ w. string_bytes w) (take i ws) (w ∷ []))
+pub names_more : {A : Type 0} (xs : List A) (i : ℕ) (x : A) → i < length xs → x ≡ get_or xs i x → take (i + 1) xs ≡ take i xs ++ x ∷ []
+names_more xs i x lt is = take_more xs i x lt ∙ ap (λ y. take i xs ++ y ∷ []) (sym is)
 
-pub words_split : (ws : List (String Global)) (i : ℕ) (w : String Global) → i < length ws → w ≡ get_or ws i w
-    → words_of ws ≡ words_of (take i ws) ++ string_bytes w ∷ words_of (drop (suc i) ws)
-words_split ws i w lt is =
-    let whole : ws ≡ take i ws ++ w ∷ drop (suc i) ws =
-    sym (take-append-drop i ws) ∙ ap (λ t. take i ws ++ t) (drop-cons ws i w lt ∙ ap (λ h. h ∷ drop (suc i) ws) (sym is)) in
-    ap words_of whole ∙ map-append (λ w. string_bytes w) (take i ws) (w ∷ drop (suc i) ws)
+pub names_split : {A : Type 0} (xs : List A) (i : ℕ) (x : A) → i < length xs → x ≡ get_or xs i x → xs ≡ take i xs ++ x ∷ drop (suc i) xs
+names_split xs i x lt is =
+    sym (take-append-drop i xs) ∙ ap (λ t. take i xs ++ t) (drop-cons xs i x lt ∙ ap (λ h. h ∷ drop (suc i) xs) (sym is))
+
+-- ---- a file that could not be read
+
+pub failure_is : (limit : ℕ) (names : List (List ℕ)) (held : Option Contents) (before now : ℕ) (name : List ℕ) (fault : ReadsFault) → IsFailureAt name fault → Rose before now
+    → IfSome held (λ files. IsReached limit files names name) → IsReadsFault limit names held before now fault
+failure_is limit names held before now name (reads.Failed called) is rose reached =
+    (rose, subst (λ (n : List ℕ). IfSome held (λ files. IsReached limit files names n)) (sym is) reached)
+failure_is limit names held before now name reads.TooLong is rose reached = absurd is
+failure_is limit names held before now name reads.NoMemory is rose reached = tt
 
 -- ---- what can't be read is not absent, and the other way round
 

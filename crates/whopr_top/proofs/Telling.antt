@@ -9,7 +9,7 @@ use Rattle.whopr_top.specs.Answers.{Exactly, lines_of, IsQuiet, CanBeSilent, IsL
 use Rattle.whopr_top.specs.Attempts.{Lined, Judged}
 use Rattle.whopr_top.specs.Refusal.{Reports, Tells, refusal_line, status_of}
 use Rattle.whopr_top.specs.declared.refusal.Refusal.{Refusal}
-use Rattle.whopr_top.specs.declared.refusal.Refusal.TheVariants.{NoCommand, Object, TooLong, TooMuch, Limit, Read, Write, Memory, Resolution, Text, Image}
+use Rattle.whopr_top.specs.declared.refusal.Refusal.TheVariants.{NoCommand, Object, TooLong, TooMuch, Limit, Read, ReadOf, Write, Memory, Resolution, Text, Jobs, Image}
 
 line_is : (limit : ℕ) (held new : Option Contents) (command : Option Spoken) (before now status : ℕ) (text : List ℕ) → Lined limit command held status text
     → Judged limit command held new before now status text → IsLine limit held command status text
@@ -26,6 +26,7 @@ line_is limit held new command before now status text lined judged = record {
   memory = lined.memory;
   resolution = lined.resolution;
   spelled = lined.spelled;
+  jobs = lined.jobs;
   image = lined.image;
   refused = judged.refused_line;
 }
@@ -44,6 +45,7 @@ memory_line limit held command = record {
   memory = λ is. refl;
   resolution = λ is. grind (arith, is);
   spelled = λ is. grind (arith, is);
+  jobs = λ is. grind (arith, is);
   image = λ is. grind (arith, is);
   refused = λ is. grind (arith, is);
 }
@@ -60,16 +62,18 @@ not_done TooLong = λ is. grind (arith, is)
 not_done TooMuch = λ is. grind (arith, is)
 not_done (Limit passed) = λ is. grind (arith, is)
 not_done (Read name) = λ is. grind (arith, is)
+not_done (ReadOf name) = λ is. grind (arith, is)
 not_done (Write name) = λ is. grind (arith, is)
 not_done Memory = λ is. grind (arith, is)
 not_done (Resolution kind place) = λ is. grind (arith, is)
 not_done (Text at kind) = λ is. grind (arith, is)
+not_done (Jobs number) = λ is. grind (arith, is)
 not_done (Image offset) = λ is. grind (arith, is)
 
 some : (byte : ℕ) (text : List ℕ) → byte ∷ text ≢ []
 some byte text = λ is. grind (arith, is)
 
-line_is_some : (text : List ℕ) → line text ≢ []
+pub line_is_some : (text : List ℕ) → line text ≢ []
 line_is_some [] = some 10 []
 line_is_some (byte ∷ text) = some byte (line text)
 
@@ -80,10 +84,12 @@ refusal_is_some TooLong = line_is_some (codes "4 limit FileBytes 16777217 167772
 refusal_is_some TooMuch = line_is_some (codes "4 limit BatchBytes 268435457 268435456")
 refusal_is_some (Limit passed) = line_is_some (((codes "4 limit " ++ quantity_word passed.quantity) ++ spaced (decimal passed.number)) ++ spaced (decimal passed.limit))
 refusal_is_some (Read name) = line_is_some (codes "5 read " ++ name.now)
+refusal_is_some (ReadOf name) = line_is_some (codes "5 read " ++ name)
 refusal_is_some (Write name) = line_is_some (codes "6 write " ++ name.now)
 refusal_is_some Memory = line_is_some (codes "7 memory")
 refusal_is_some (Resolution kind place) = line_is_some ((codes "8 resolution " ++ resolution_word kind) ++ spaced (resolution_place place))
 refusal_is_some (Text at kind) = line_is_some ((codes "9 text " ++ (decimal at ++ codes " ")) ++ kind_word kind)
+refusal_is_some (Jobs number) = line_is_some (codes "10 jobs " ++ decimal number)
 refusal_is_some (Image offset) = line_is_some (codes "11 image " ++ decimal offset)
 
 pub outcome_is_some : (outcome : Outcome) → outcome_line outcome ≢ []
@@ -122,6 +128,7 @@ done_lined limit command old text quiet silent = record {
   memory = λ is. grind (arith, is);
   resolution = λ is. grind (arith, is);
   spelled = λ is. grind (arith, is);
+  jobs = λ is. grind (arith, is);
   image = λ is. grind (arith, is);
 }
 

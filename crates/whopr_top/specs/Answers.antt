@@ -9,7 +9,7 @@ use Rattle.resolution_text.specs.declared.fault.ResolutionKind.{ResolutionKind}
 use Rattle.whopr_top.specs.declared.refusal.ResolutionPlace.{ResolutionPlace}
 use Rattle.whopr_words.specs.Commands.{Spoken, Cc, Lgen, Show, Resolve}
 use Rattle.whopr_top.specs.Reads.{reads_of, MayWrite, IsOverLimit, IsReached}
-use Rattle.whopr_top.specs.Lines.{line, text_line, object_line, limit_line, resolution_line, batch_bytes_line}
+use Rattle.whopr_top.specs.Lines.{line, text_line, object_line, limit_line, resolution_line, batch_bytes_line, jobs_line}
 use Rattle.whopr_top.specs.Judgements.{File}
 use Rattle.whopr_top.specs.Outputs.{IsJudged, IsRefused}
 
@@ -20,15 +20,15 @@ pub record Exactly (status result : ℕ) (cause : Type 0) : Type 0 where
 
 -- the statuses that there are
 abbrev pub is_status : ℕ → Bool
-is_status status = list_any (λ s. s == status) (0 ∷ 2 ∷ 3 ∷ 4 ∷ 5 ∷ 6 ∷ 7 ∷ 8 ∷ 9 ∷ 11 ∷ [])
+is_status status = list_any (λ s. s == status) (0 ∷ 2 ∷ 3 ∷ 4 ∷ 5 ∷ 6 ∷ 7 ∷ 8 ∷ 9 ∷ 10 ∷ 11 ∷ [])
 
 -- the statuses of a command that was refused before its first write
 abbrev pub is_early : ℕ → Bool
-is_early status = list_any (λ s. s == status) (2 ∷ 3 ∷ 4 ∷ 5 ∷ 8 ∷ 9 ∷ 11 ∷ [])
+is_early status = list_any (λ s. s == status) (2 ∷ 3 ∷ 4 ∷ 5 ∷ 8 ∷ 9 ∷ 10 ∷ 11 ∷ [])
 
 -- the statuses of a command that what it read refuses
 abbrev pub is_judged : ℕ → Bool
-is_judged status = list_any (λ s. s == status) (3 ∷ 8 ∷ 9 ∷ 11 ∷ [])
+is_judged status = list_any (λ s. s == status) (3 ∷ 8 ∷ 9 ∷ 10 ∷ 11 ∷ [])
 
 -- how many lines that name a file are printed with a status of 5 or 6, where the sink itself does not fail
 abbrev pub lines_of : ℕ → ℕ
@@ -55,7 +55,7 @@ file_bytes_line = line (codes "4 limit FileBytes 16777217 16777216")
 
 -- the line of what is too large, by what the command reads: a file, the objects together, or the program
 abbrev pub IsLimitLine : ℕ → Contents → Spoken → List ℕ → Type 0
-IsLimitLine limit held command text = (IsOverLimit limit held (reads_of command) × (text ≡ file_bytes_line)) ⊎ IsRefused limit command held 4 text
+IsLimitLine limit held command text = (IsOverLimit limit held (reads_of limit held command) × (text ≡ file_bytes_line)) ⊎ IsRefused limit command held 4 text
 
 -- The text that goes with a status, by what the command reads, where that is told.
 pub record IsLine (limit : ℕ) (held : Option Contents) (command : Option Spoken) (status : ℕ) (text : List ℕ) : Type 0 where
@@ -66,11 +66,12 @@ pub record IsLine (limit : ℕ) (held : Option Contents) (command : Option Spoke
   pub object : status ≡ 3 → (number : ℕ) × (fault : ObjectFault) × (text ≡ object_line number fault)
   pub over : status ≡ 4 → (text ≡ file_bytes_line) ⊎ (text ≡ batch_bytes_line) ⊎ ((passed : LimitFault) × (text ≡ limit_line passed))
   pub limited : status ≡ 4 → IfSome held (λ files. IsSomeAnd command (λ c. IsLimitLine limit files c text))
-  pub read : status ≡ 5 → IsSomeAnd command (λ c. (name : List ℕ) × IfSome held (λ files. IsReached limit files (reads_of c) name) × (text ≡ line (codes "5 read " ++ name)))
+  pub read : status ≡ 5 → IsSomeAnd command (λ c. (name : List ℕ) × IfSome held (λ files. IsReached limit files (reads_of limit files c) name) × (text ≡ line (codes "5 read " ++ name)))
   pub write : status ≡ 6 → IsSomeAnd command (λ c. (name : List ℕ) × MayWrite c name × (text ≡ line (codes "6 write " ++ name)))
   pub memory : status ≡ 7 → text ≡ line (codes "7 memory")
   pub resolution : status ≡ 8 → (kind : ResolutionKind) × (place : ResolutionPlace) × (text ≡ resolution_line kind place)
   pub spelled : status ≡ 9 → (at : ℕ) × (kind : TextKind) × (text ≡ text_line at kind)
+  pub jobs : status ≡ 10 → (number : ℕ) × (text ≡ jobs_line number)
   pub image : status ≡ 11 → (offset : ℕ) × (text ≡ line (codes "11 image " ++ decimal offset))
   pub refused : IsTrue (is_judged status) → IfSome held (λ files. IsSomeAnd command (λ c. IsRefused limit c files status text))
 

@@ -9,7 +9,7 @@ use Rattle.resolution_text.specs.declared.fault.ResolutionKind.{ResolutionKind}
 use Rattle.whopr_top.specs.declared.refusal.ResolutionPlace.{ResolutionPlace}
 use Rattle.whopr_words.specs.Commands.{Spoken}
 use Rattle.whopr_top.specs.Reads.{reads_of, MayWrite, IsAbsent, IsReached}
-use Rattle.whopr_top.specs.Lines.{line, text_line, object_line, limit_line, resolution_line, batch_bytes_line}
+use Rattle.whopr_top.specs.Lines.{line, text_line, object_line, limit_line, resolution_line, batch_bytes_line, jobs_line}
 use Rattle.whopr_top.specs.Judgements.{File}
 use Rattle.whopr_top.specs.Outputs.{IsJudged, IsRefused, Done, Faithful, CutShort, Refused, IsTooLarge, IsValid}
 use Rattle.whopr_top.specs.Answers.{Exactly, is_status, is_early, is_judged, lines_of, IsQuiet, CanBeSilent, file_bytes_line, IsLimitLine}
@@ -18,7 +18,7 @@ use Rattle.whopr_top.specs.Answers.{Exactly, is_status, is_early, is_judged, lin
 pub record Attempt (limit : ℕ) (command : Option Spoken) (old new : Option Contents) (status : ℕ) : Type 0 where
   pub answers : IsTrue (is_status status)
   pub words : Exactly 2 status (command ≡ None)
-  pub absent : ForSome old (λ held. IsSomeAnd command (λ c. IsAbsent limit held (reads_of c)) → (status ≡ 5) ⊎ (status ≡ 7))
+  pub absent : ForSome old (λ held. IsSomeAnd command (λ c. IsAbsent limit held (reads_of limit held c)) → (status ≡ 5) ⊎ (status ≡ 7))
   pub early : IsTrue (is_early status) → new ≡ old
   pub memory : status ≡ 7 → new ≡ old
 
@@ -35,11 +35,12 @@ pub record Lined (limit : ℕ) (command : Option Spoken) (old : Option Contents)
   pub words : status ≡ 2 → text ≡ line (codes "2 words")
   pub object : status ≡ 3 → (number : ℕ) × (fault : ObjectFault) × (text ≡ object_line number fault)
   pub over : status ≡ 4 → (text ≡ file_bytes_line) ⊎ (text ≡ batch_bytes_line) ⊎ ((passed : LimitFault) × (text ≡ limit_line passed))
-  pub read : status ≡ 5 → IsSomeAnd command (λ c. (name : List ℕ) × IfSome old (λ files. IsReached limit files (reads_of c) name) × (text ≡ line (codes "5 read " ++ name)))
+  pub read : status ≡ 5 → IsSomeAnd command (λ c. (name : List ℕ) × IfSome old (λ files. IsReached limit files (reads_of limit files c) name) × (text ≡ line (codes "5 read " ++ name)))
   pub write : status ≡ 6 → IsSomeAnd command (λ c. (name : List ℕ) × MayWrite c name × (text ≡ line (codes "6 write " ++ name)))
   pub memory : status ≡ 7 → text ≡ line (codes "7 memory")
   pub resolution : status ≡ 8 → (kind : ResolutionKind) × (place : ResolutionPlace) × (text ≡ resolution_line kind place)
   pub spelled : status ≡ 9 → (at : ℕ) × (kind : TextKind) × (text ≡ text_line at kind)
+  pub jobs : status ≡ 10 → (number : ℕ) × (text ≡ jobs_line number)
   pub image : status ≡ 11 → (offset : ℕ) × (text ≡ line (codes "11 image " ++ decimal offset))
 
 -- what the command comes to by what it read
@@ -48,6 +49,7 @@ pub record Judged (limit : ℕ) (command : Option Spoken) (old new : Option Cont
   pub large : ForSome old (λ held. status ≢ 5 → Exactly 4 status (IsTooLarge limit held command))
   pub resolution : ForSome old (λ held. status ≢ 5 → Exactly 8 status (Refused 8 limit held command))
   pub spelled : ForSome old (λ held. status ≢ 5 → Exactly 9 status (Refused 9 limit held command))
+  pub jobs : ForSome old (λ held. status ≢ 5 → Exactly 10 status (Refused 10 limit held command))
   pub image : ForSome old (λ held. status ≢ 5 → Exactly 11 status (Refused 11 limit held command))
   pub complete : ForSome old (λ held. IsValid limit held command → ¬ Rose before now → (status ≡ 0) ⊎ (status ≡ 7))
   pub done : status ≡ 0 → WhereTold old new (Done limit command)

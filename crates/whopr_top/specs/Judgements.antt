@@ -1,7 +1,10 @@
 -- What a command comes to by the bytes of the files that it reads, every fault of the outside set aside: a case a command.
-use Rattle.std.specs.Prelude.{◌≡◌, ℕ, ◌+◌, map, List, [], ◌∷◌, ◌++◌, ◌^◌, length, nat_le, sum_by, if◌then◌else◌, Option, None, Some, Result, Ok, Err, codes, decimal}
+use Rattle.std.specs.Prelude.{◌≡◌, ℕ, ◌+◌, map, List, [], ◌∷◌, ◌++◌, ◌^◌, length, take, drop, get_or, nat_le, sum_by, if◌then◌else◌, Option, None, Some, Result, Ok, Err, codes, decimal}
 use Rattle.gimple_ir.specs.declared.types.Module.{Module}
+use Rattle.gimple_ir.specs.declared.types.Program.{Program}
 use Rattle.gimple_ir.specs.declared.merged.Merged.{Merged}
+use Rattle.gimple_meaning.specs.Systems.{State}
+use Rattle.gimple_meaning.specs.Run.{src, outcome_of, output_of as written_by}
 use Rattle.gimple_syntax.specs.declared.text.TextFault.{TextFault}
 use Rattle.gimple_syntax.specs.Reading.{read_of}
 use Rattle.gimple_print.specs.Canonical.{text_of}
@@ -19,11 +22,17 @@ use Rattle.resolution_text.specs.declared.fault.ResolutionError.{ResolutionError
 use Rattle.resolution_text.specs.declared.fault.ResolutionError.TheVariants as errors
 use Rattle.resolution_text.specs.declared.resolution.Resolution.{Resolution}
 use Rattle.resolution_text.specs.Printing.{text_of as resolution_text}
+use Rattle.resolution_text.specs.Reading.{resolution_in}
 use Rattle.symbol_resolution.specs.Resolving.{resolve_of}
 use Rattle.symbol_resolution.specs.Merging.{merged_of, program_of}
-use Rattle.whopr_words.specs.Commands.{Spoken, Cc, Lgen, Show, Run, Resolve}
+use Rattle.whopr_words.specs.declared.fault.JobError.{JobError}
+use Rattle.whopr_words.specs.declared.fault.JobError.TheVariants as job_error
+use Rattle.whopr_words.specs.declared.job_file.Job.{Job}
+use Rattle.whopr_words.specs.declared.job_file.Jobs.{Jobs}
+use Rattle.whopr_words.specs.Jobs.{jobs_in}
+use Rattle.whopr_words.specs.Commands.{Spoken, Cc, Lgen, Show, Interp, Run, Resolve}
 use Rattle.whopr_top.specs.declared.refusal.ResolutionPlace.TheVariants.{AtLine, AtName}
-use Rattle.whopr_top.specs.Lines.{line, outcome_line, text_line, object_line, limit_line, resolution_line, batch_bytes_line}
+use Rattle.whopr_top.specs.Lines.{line, outcome_line, standing_line, text_line, object_line, limit_line, resolution_line, jobs_line, batch_bytes_line}
 
 -- a file that is written: its name and its bytes
 abbrev pub File : Type 0
@@ -113,12 +122,81 @@ abbrev pub JudgesText : (input output : List ℕ) → Result Module TextFault �
 JudgesText input output (Ok source) judgement = JudgesLink output (data_of source ∷ []) (input ∷ []) judgement
 JudgesText input output (Err fault) judgement = judgement ≡ Refuses 9 (text_line fault.line fault.kind)
 
+-- ---- the program of the only job of a job file
+
+-- the files of a job: its objects in order, and then its resolution
+abbrev pub job_files : Job → List (List ℕ)
+job_files job = job.objects ++ job.resolution ∷ []
+
+-- the only one of jobs
+abbrev pub only_of : List Job → Result Job Judgement
+only_of [] = Err (Refuses 10 (jobs_line 1))
+only_of (job ∷ []) = Ok job
+only_of (job ∷ other ∷ more) = Err (Refuses 10 (jobs_line 1))
+
+-- the only job of a job file, unless its text has another form, or another number of jobs
+abbrev pub only_job : Result Jobs JobError → Result Job Judgement
+only_job (Ok jobs) = only_of jobs.links
+only_job (Err (job_error.Fault number)) = Err (Refuses 10 (jobs_line number))
+only_job (Err job_error.NoMemory) = Err (Refuses 7 (line (codes "7 memory")))
+
+-- a program that passes no limit
+abbrev pub program_within : Option LimitFault → Program → Result Program Judgement
+program_within None program = Ok program
+program_within (Some passed) program = Err (Refuses 4 (limit_line passed))
+
+-- the whole program that objects merge to, unless they don't
+abbrev pub program_merged : List ObjectData → Result Merged ResolutionError → Result Program Judgement
+program_merged objects (Ok merged) = program_within (first_passed (limits_of merged)) (program_of objects merged)
+program_merged objects (Err fault) = Err (unresolved fault)
+
+-- the program of objects under a resolution, if its text spells one
+abbrev pub program_under : List (List ℕ) → List ObjectData → Result Resolution ResolutionError → Result Program Judgement
+program_under names objects (Ok resolution) = program_merged objects (merged_of objects names resolution)
+program_under names objects (Err fault) = Err (unresolved fault)
+
+-- the program of files that are objects, whose names these are, under the resolution that a text spells
+abbrev pub program_by : List (List ℕ) → Result (List ObjectData) (ℕ × ObjectFault) → List ℕ → Result Program Judgement
+program_by names (Ok objects) resolution = program_under names objects (resolution_in resolution)
+program_by names (Err refused) resolution = Err (Refuses 3 (object_line refused.0 refused.1))
+
+-- the program of a job by the bytes of its files, which have at most 256 MiB together
+abbrev pub job_program : Job → List (List ℕ) → Result Program Judgement
+job_program job files =
+    if nat_le (sum_by length files) (2 ^ 28)
+    then program_by job.objects (objects_from 0 (take (length job.objects) files)) (get_or files (length job.objects) [])
+    else Err (Refuses 4 batch_bytes_line)
+
+-- what a run has written is written, and how it stands is printed
+abbrev pub standing_by : List ℕ → State → Judgement
+standing_by output state = Gives ((output, written_by state) ∷ []) (standing_line (outcome_of state))
+
+-- a program is run on the bytes that are read then; where there is none, nothing more is read
+abbrev pub JudgesRun : List ℕ → ℕ → Result Program Judgement → List (List ℕ) → Judgement → Type 0
+JudgesRun output steps (Ok program) [] judgement = ⊥
+JudgesRun output steps (Ok program) (given ∷ []) judgement = judgement ≡ standing_by output (src program given steps)
+JudgesRun output steps (Ok program) (given ∷ other ∷ more) judgement = ⊥
+JudgesRun output steps (Err refused) [] judgement = judgement ≡ refused
+JudgesRun output steps (Err refused) (bytes ∷ more) judgement = ⊥
+
+-- the program of a job, whose files are read first
+abbrev pub JudgesJob : List ℕ → ℕ → Job → List (List ℕ) → Judgement → Type 0
+JudgesJob output steps job contents judgement =
+    JudgesRun output steps (job_program job (take (length (job_files job)) contents)) (drop (length (job_files job)) contents) judgement
+
+-- `interp`: the program of the only job of the job file, which is read before its files
+abbrev pub JudgesOnly : List ℕ → ℕ → Result Job Judgement → List (List ℕ) → Judgement → Type 0
+JudgesOnly output steps (Ok job) contents judgement = JudgesJob output steps job contents judgement
+JudgesOnly output steps (Err refused) [] judgement = judgement ≡ refused
+JudgesOnly output steps (Err refused) (bytes ∷ more) judgement = ⊥
+
 -- ---- all commands
 
 abbrev pub Judges : Spoken → List (List ℕ) → Judgement → Type 0
 Judges (Cc input output) (text ∷ []) judgement = JudgesText input output (read_of text) judgement
 Judges (Lgen input output) (text ∷ []) judgement = judgement ≡ lgen_by output (read_of text)
 Judges (Show object) (bytes ∷ []) judgement = judgement ≡ show_by (read_object_of bytes)
+Judges (Interp jobs steps input output) (text ∷ contents) judgement = JudgesOnly output steps (only_job (jobs_in text)) contents judgement
 Judges (Run image steps input output) (bytes ∷ given ∷ []) judgement = judgement ≡ run_by output (load_fault_of bytes) (run_of bytes given steps)
 Judges (Resolve output objects) contents judgement = judgement ≡ within_batch contents (resolve_by output objects (objects_from 0 contents))
 Judges command contents judgement = ⊥

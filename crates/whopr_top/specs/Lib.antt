@@ -8,3 +8,5 @@ pub mod Outputs
 pub mod Answers
 pub mod Attempts
 pub mod Refusal
+pub mod Interpreting
+pub mod Links

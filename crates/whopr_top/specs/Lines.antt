@@ -1,5 +1,5 @@
--- The lines that commands print: how a machine stands, the fault of a text, the fault of an object, a limit that is passed, the fault
--- of a resolution.
+-- The lines that commands print: how a machine stands, how a program stands, the fault of a text, the fault of an object, a limit that
+-- is passed, the fault of a resolution.
 use Rattle.std.specs.Prelude.{ℕ, List, [], ◌∷◌, ◌++◌, codes, decimal}
 use Rattle.gimple_ir.specs.declared.fault.TypeKind.{TypeKind}
 use Rattle.gimple_ir.specs.declared.fault.TypeKind.TheVariants.{DoubleName, UnknownName, TooMany, BadLabel, OpenEnd, WrongCount, WrongType, NegLiteral, BadCase}
@@ -15,6 +15,8 @@ use Rattle.resolution_text.specs.declared.fault.ResolutionKind.TheVariants.{BadL
 use Rattle.whopr_top.specs.declared.refusal.ResolutionPlace.{ResolutionPlace}
 use Rattle.whopr_top.specs.declared.refusal.ResolutionPlace.TheVariants.{AtLine, AtName}
 use Rattle.rv64_meaning.specs.Machine.{Outcome, Running, Ended, Trapped}
+use Rattle.gimple_meaning.specs.declared.outcome.Outcome.{Outcome as Standing}
+use Rattle.gimple_meaning.specs.declared.outcome.Outcome.TheVariants as stands
 
 abbrev pub line : List ℕ → List ℕ
 line text = text ++ 10 ∷ []
@@ -24,6 +26,20 @@ abbrev pub outcome_line : Outcome → List ℕ
 outcome_line (Running output) = line (codes "running")
 outcome_line (Ended status output) = line (codes "ended " ++ decimal status)
 outcome_line (Trapped address output) = line (codes "trapped " ++ decimal address)
+
+-- a word of a line, behind a space
+abbrev pub spaced : List ℕ → List ℕ
+spaced word = codes " " ++ word
+
+-- a program that is undefined at a statement of a function
+abbrev pub undefined_line : (function statement : ℕ) → List ℕ
+undefined_line function statement = line ((codes "undefined " ++ decimal function) ++ spaced (decimal statement))
+
+-- how a program stands after its run
+abbrev pub standing_line : Standing → List ℕ
+standing_line stands.Running = line (codes "running")
+standing_line (stands.Ended status) = line (codes "ended " ++ decimal status)
+standing_line (stands.Undefined function statement) = undefined_line function statement
 
 -- the word of a fault's kind
 abbrev pub check_word : TypeKind → List ℕ
@@ -63,10 +79,6 @@ object_word (TypeFault fault) = codes "TypeFault"
 object_word (SummaryDiffers function stored found) = codes "SummaryDiffers"
 object_word (SymbolsDiffer place) = codes "SymbolsDiffer"
 object_word (BadLayout offset) = codes "BadLayout"
-
--- a word of a line, behind a space
-abbrev pub spaced : List ℕ → List ℕ
-spaced word = codes " " ++ word
 
 -- where an object's fault is: at an offset; for a fault of the checks its kind, its item and its statement
 abbrev pub object_place : ObjectFault → List ℕ
@@ -121,6 +133,10 @@ resolution_place (AtName name) = name
 -- the line of a resolution's fault
 abbrev pub resolution_line : ResolutionKind → ResolutionPlace → List ℕ
 resolution_line kind place = line ((codes "8 resolution " ++ resolution_word kind) ++ spaced (resolution_place place))
+
+-- the line of a job file's first bad line, by its number
+abbrev pub jobs_line : ℕ → List ℕ
+jobs_line number = line (codes "10 jobs " ++ decimal number)
 
 -- the line of objects that are too large together
 abbrev pub batch_bytes_line : List ℕ

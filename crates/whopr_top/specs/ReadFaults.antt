@@ -16,9 +16,15 @@ use Rattle.whopr_top.specs.Judgements.{Refuses, Gives, resolve_by}
 
 -- why files could not be read one after the other
 abbrev pub IsReadsFault : ℕ → List (List ℕ) → Option Contents → ℕ → ℕ → ReadsFault → Type 0
-IsReadsFault limit names held before now (reads.Failed name) = Rose before now × IfSome held (λ files. IsReached limit files names name.now)
+IsReadsFault limit names held before now (reads.Failed name) = Rose before now × IfSome held (λ files. IsReached limit files names name)
 IsReadsFault limit names held before now reads.TooLong = IfSome held (λ files. IsOverLimit limit files names)
 IsReadsFault limit names held before now reads.NoMemory = Unit {0}
+
+-- this file could not be read, unless memory ran out
+abbrev pub IsFailureAt : List ℕ → ReadsFault → Type 0
+IsFailureAt name (reads.Failed failed) = failed ≡ name
+IsFailureAt name reads.TooLong = ⊥
+IsFailureAt name reads.NoMemory = Unit {0}
 
 -- the objects, or the first fault, unless memory ran out
 abbrev pub GivesObjects : Result (Vec ObjectData Global) ObjectsFault → Result (List ObjectData) (ℕ × ObjectFault) → Type 0

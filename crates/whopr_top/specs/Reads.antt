@@ -1,23 +1,53 @@
 -- What a command asks of the files that it reads and writes, for commands in general.
-use Rattle.std.specs.Prelude.{◌≡◌, ℕ, ◌≤◌, ◌⊎◌, List, [], ◌∷◌, length, map, Option, None, Some, IsSomeAnd, Vec}
+use Rattle.std.specs.Prelude.{◌≡◌, ℕ, ◌≤◌, ◌⊎◌, List, [], ◌∷◌, ◌++◌, length, map, Option, None, Some, IsSomeAnd, unwrap_or, Result, Ok, Err, Vec}
 use Rattle.std.specs.declared.alloc.Global.{Global}
 use Rattle.outer_files.specs.Outside.{Contents, IsLonger}
-use Rattle.whopr_words.specs.Commands.{Spoken, Cc, Lgen, Show, Run, Resolve}
+use Rattle.gimple_ir.specs.declared.types.Program.{Program}
+use Rattle.whopr_words.specs.declared.job_file.Job.{Job}
+use Rattle.whopr_words.specs.Jobs.{jobs_in}
+use Rattle.whopr_words.specs.Commands.{Spoken, Cc, Lgen, Show, Interp, Run, Resolve}
+use Rattle.whopr_top.specs.Judgements.{Judgement, job_files, only_job, job_program}
 
--- the files that a command reads, in order
-abbrev pub reads_of : Spoken → List (List ℕ)
-reads_of (Cc input output) = input ∷ []
-reads_of (Lgen input output) = input ∷ []
-reads_of (Show object) = object ∷ []
-reads_of (Run image steps input output) = image ∷ input ∷ []
-reads_of (Resolve output objects) = objects
-reads_of command = []
+-- ---- what is read
+
+-- the bytes held under names; of one that is not held, none
+abbrev pub held_under : Contents → List (List ℕ) → List (List ℕ)
+held_under held names = map (λ name. unwrap_or (held name) []) names
+
+-- a program's input, where there is a program
+abbrev pub input_of : List ℕ → Result Program Judgement → List (List ℕ)
+input_of input (Ok program) = input ∷ []
+input_of input (Err refused) = []
+
+-- the files of a job, and then the input of their program
+abbrev pub job_reads : Contents → List ℕ → Job → List (List ℕ)
+job_reads held input job = job_files job ++ input_of input (job_program job (held_under held (job_files job)))
+
+abbrev pub only_reads : Contents → List ℕ → Result Job Judgement → List (List ℕ)
+only_reads held input (Ok job) = job_reads held input job
+only_reads held input (Err refused) = []
+
+-- those of the only job of a job file
+abbrev pub text_reads : Contents → List ℕ → Option (List ℕ) → List (List ℕ)
+text_reads held input None = []
+text_reads held input (Some text) = only_reads held input (only_job (jobs_in text))
+
+-- the files that a command reads, in order, by what is held within the limit
+abbrev pub reads_of : ℕ → Contents → Spoken → List (List ℕ)
+reads_of limit held (Cc input output) = input ∷ []
+reads_of limit held (Lgen input output) = input ∷ []
+reads_of limit held (Show object) = object ∷ []
+reads_of limit held (Interp jobs steps input output) = jobs ∷ text_reads held input (held jobs)
+reads_of limit held (Run image steps input output) = image ∷ input ∷ []
+reads_of limit held (Resolve output objects) = objects
+reads_of limit held command = []
 
 -- the names of the files that it may write
 abbrev pub MayWrite : Spoken → List ℕ → Type 0
 MayWrite (Cc input output) name = name ≡ output
 MayWrite (Lgen input output) name = name ≡ output
 MayWrite (Show object) name = ⊥
+MayWrite (Interp jobs steps input output) name = name ≡ output
 MayWrite (Run image steps input output) name = name ≡ output
 MayWrite (Resolve output objects) name = name ≡ output
 MayWrite command name = ⊥

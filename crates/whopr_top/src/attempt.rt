@@ -2,11 +2,12 @@
 ghost use Rattle.std.specs.Prelude.{◌≡◌, [], Some, true, IfOk};
 ghost use Rattle.whopr_words.specs.Commands.{Cc, Lgen, Show, Run, words_of, is_file_name};
 ghost use Rattle.whopr_top.specs.Answers.{IsQuiet};
-ghost use Rattle.whopr_top.specs.Built.{command_of};
+ghost use Rattle.whopr_top.specs.Built.{command_of, IsWhole};
 ghost use Rattle.whopr_top.specs.Attempts.{Attempt, Counted, Lined, Judged};
 ghost use Rattle.whopr_top.specs.Refusal.{answer_of, text_of};
 
 use crate::compiling::{ImageFault, image_of};
+use crate::interpreting::interp;
 use crate::objects::{object_of, shown};
 use crate::refusal::Refusal;
 use crate::resolving::resolve;
@@ -26,6 +27,7 @@ pub fn attempt<'a, F: FileStore>(
     words: &'a [String],
     files: &mut F,
 ) -> Result<Vec<u8>, Refusal<'a>>
+    requires { IsWhole (command_of (words_of words.now)) }
     ensures quiet { IfOk result (λ text. IsQuiet (command_of (words_of words.now)) → text.items ≡ []) }
     ensures attempt { Attempt FILE_BYTES (command_of (words_of words.now)) (F.held files.old) (F.held files.new) (answer_of result) }
     ensures counted { Counted (F.faults files.old) (F.faults files.new) (answer_of result) }
@@ -45,8 +47,15 @@ pub fn attempt<'a, F: FileStore>(
             },
         ) => run(alloc, image, steps, input, out, files),
         Some(Command::Resolve { out, objects }) => resolve(alloc, out, objects, files),
-        Some(Command::Interp { .. }) => Err(Refusal::NoCommand),
-        Some(Command::Link { .. }) => Err(Refusal::NoCommand),
+        Some(
+            Command::Interp {
+                jobs,
+                steps,
+                input,
+                out,
+            },
+        ) => interp(alloc, jobs, steps, input, out, files),
+        Some(Command::Link { .. }) => unreachable!(),
         Some(Command::Batch { .. }) => Err(Refusal::NoCommand),
         Some(Command::Replay { .. }) => Err(Refusal::NoCommand),
         Some(Command::Gen { .. }) => Err(Refusal::NoCommand),

@@ -7,7 +7,10 @@
 
 mod attempt;
 mod compiling;
+mod interpreting;
+mod limits;
 mod lines;
+mod links;
 mod objects;
 mod reads;
 mod refusal;

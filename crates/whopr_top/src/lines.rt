@@ -1,10 +1,12 @@
 // The lines that commands print.
 ghost use Rattle.std.specs.Prelude.{◌≡◌, ◌++◌, IfOk, OnOk, [], string_bytes, decimal};
 ghost use Rattle.rv64_meaning.specs.Standings.{outcome_by};
-ghost use Rattle.whopr_top.specs.Lines.{outcome_line, check_word, kind_word, text_line, object_word, object_place, object_line, quantity_word, limit_line, resolution_word, resolution_place, resolution_line, spaced};
+ghost use Rattle.whopr_top.specs.Lines.{outcome_line, undefined_line, standing_line, check_word, kind_word, text_line, object_word, object_place, object_line, quantity_word, limit_line, resolution_word, resolution_line, spaced};
+ghost use Rattle.whopr_top.specs.declared.refusal.ResolutionPlace.TheVariants.{AtLine, AtName};
 
 use crate::refusal::ResolutionPlace;
-use gimple_ir::{TypeFault, TypeKind};
+use gimple_ir::{Name, TypeFault, TypeKind};
+use gimple_meaning::Outcome;
 use gimple_syntax::TextKind;
 use lto_object::ObjectFault;
 use program_link::{LimitFault, Quantity};
@@ -20,6 +22,30 @@ pub fn state_line(alloc: Global, state: MachineState) -> Result<String, AllocErr
         MachineState::Running => format!(in alloc; "running\n"),
         MachineState::Ended(status) => format!(in alloc; "ended {status}\n"),
         MachineState::Trapped { address } => format!(in alloc; "trapped {address}\n"),
+    }
+}
+
+// The line of a program that is undefined at a statement.
+fn undefined_line(alloc: Global, function: u32, statement: u32) -> Result<String, AllocError>
+    ensures { IfOk result (λ line. string_bytes line ≡ undefined_line function statement) }
+{
+    let mut text = format!(in alloc; "undefined {function}")?;
+    push_number(alloc, &mut text, u64::from(statement))?;
+    text.push_str("\n")?;
+    Ok(text)
+}
+
+/// The line that says how a program stands.
+pub fn standing_line(alloc: Global, standing: Outcome) -> Result<String, AllocError>
+    ensures { IfOk result (λ line. string_bytes line ≡ standing_line standing) }
+{
+    match standing {
+        Outcome::Running => format!(in alloc; "running\n"),
+        Outcome::Ended(status) => format!(in alloc; "ended {status}\n"),
+        Outcome::Undefined {
+            function,
+            statement,
+        } => undefined_line(alloc, function, statement),
     }
 }
 
@@ -174,21 +200,42 @@ fn resolution_word(kind: ResolutionKind) -> &'static str
     }
 }
 
-// Appends where a resolution's fault is.
-fn push_resolution_place(
+/// The line of a resolution's fault at a line of its text.
+pub fn resolution_at_line(
     alloc: Global,
-    text: &mut String,
-    place: &ResolutionPlace,
-) -> Result<(), AllocError>
-    ensures { OnOk result (string_bytes text.new ≡ string_bytes text.old ++ spaced (resolution_place place.now)) }
+    kind: ResolutionKind,
+    line: u32,
+) -> Result<String, AllocError>
+    ensures { IfOk result (λ found. string_bytes found ≡ resolution_line kind (AtLine line)) }
 {
-    match place {
-        ResolutionPlace::AtLine(line) => push_number(alloc, text, u64::from(*line)),
-        ResolutionPlace::AtName(name) => {
-            text.push_str(" ")?;
-            text.push_str(name.as_str())
-        }
-    }
+    let mut text = String::from_str(alloc, "8 resolution ")?;
+    text.push_str(resolution_word(kind))?;
+    push_number(alloc, &mut text, u64::from(line))?;
+    text.push_str("\n")?;
+    Ok(text)
+}
+
+// Appends a name behind a space.
+fn push_name(text: &mut String, name: &Name) -> Result<(), AllocError>
+    ensures { OnOk result (string_bytes text.new ≡ string_bytes text.old ++ spaced name.now) }
+{
+    text.push_str(" ")?;
+    text.push_str(name.as_str())
+}
+
+/// The line of a resolution's fault at a name.
+pub fn resolution_at_name(
+    alloc: Global,
+    kind: ResolutionKind,
+    name: &Name,
+) -> Result<String, AllocError>
+    ensures { IfOk result (λ found. string_bytes found ≡ resolution_line kind (AtName name.now)) }
+{
+    let mut text = String::from_str(alloc, "8 resolution ")?;
+    text.push_str(resolution_word(kind))?;
+    push_name(&mut text, name)?;
+    text.push_str("\n")?;
+    Ok(text)
 }
 
 /// The line of a resolution's fault.
@@ -199,9 +246,8 @@ pub fn resolution_line(
 ) -> Result<String, AllocError>
     ensures { IfOk result (λ line. string_bytes line ≡ resolution_line kind place.now) }
 {
-    let mut text = String::from_str(alloc, "8 resolution ")?;
-    text.push_str(resolution_word(kind))?;
-    push_resolution_place(alloc, &mut text, place)?;
-    text.push_str("\n")?;
-    Ok(text)
+    match place {
+        ResolutionPlace::AtLine(line) => resolution_at_line(alloc, kind, *line),
+        ResolutionPlace::AtName(name) => resolution_at_name(alloc, kind, name),
+    }
 }

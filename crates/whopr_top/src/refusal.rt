@@ -1,6 +1,6 @@
 // Why a command was refused: its status and its line.
 ghost use Rattle.std.specs.Prelude.{◌≡◌, IfOk, string_bytes};
-ghost use Rattle.whopr_top.specs.Refusal.{status_of, refusal_line};
+ghost use Rattle.whopr_top.specs.Refusal.{status_of, read_line, refusal_line};
 
 use crate::lines::{limit_line, object_line, resolution_line, text_line};
 use gimple_ir::Name;
@@ -32,8 +32,10 @@ pub enum Refusal<'a> {
     TooMuch,
     /// 4: the program passes a limit; the first.
     Limit(LimitFault),
-    /// 5: this file could not be read.
+    /// 5: this file of the words could not be read.
     Read(&'a str),
+    /// 5: this other file could not be read.
+    ReadOf(Name),
     /// 6: this file could not be written.
     Write(&'a str),
     /// 7: there was no memory.
@@ -42,6 +44,8 @@ pub enum Refusal<'a> {
     Resolution(ResolutionKind, ResolutionPlace),
     /// 9: the text is outside the grammar, or the checks refuse it; the line and the kind of its first fault.
     Text(u32, TextKind),
+    /// 10: the job file has another form; its first bad line, counted from 1.
+    Jobs(u32),
     /// 11: the image has its first fault at this byte.
     Image(u64),
 }
@@ -55,14 +59,22 @@ impl Refusal<'_> {
             Refusal::NoCommand => 2,
             Refusal::Object(_, _) => 3,
             Refusal::TooLong | Refusal::TooMuch | Refusal::Limit(_) => 4,
-            Refusal::Read(_) => 5,
+            Refusal::Read(_) | Refusal::ReadOf(_) => 5,
             Refusal::Write(_) => 6,
             Refusal::Memory => 7,
             Refusal::Resolution(_, _) => 8,
             Refusal::Text(_, _) => 9,
+            Refusal::Jobs(_) => 10,
             Refusal::Image(_) => 11,
         }
     }
+}
+
+/// The line of a file that could not be read.
+pub fn read_line(alloc: Global, name: &str) -> Result<String, AllocError>
+    ensures { IfOk result (λ line. string_bytes line ≡ read_line name.now) }
+{
+    format!(in alloc; "5 read {name}\n")
 }
 
 /// The line of a refusal.
@@ -75,11 +87,13 @@ pub fn refusal_line(alloc: Global, refusal: Refusal<'_>) -> Result<String, Alloc
         Refusal::TooLong => format!(in alloc; "4 limit FileBytes 16777217 16777216\n"),
         Refusal::TooMuch => format!(in alloc; "4 limit BatchBytes 268435457 268435456\n"),
         Refusal::Limit(passed) => limit_line(alloc, passed),
-        Refusal::Read(name) => format!(in alloc; "5 read {name}\n"),
+        Refusal::Read(name) => read_line(alloc, name),
+        Refusal::ReadOf(name) => read_line(alloc, name.as_str()),
         Refusal::Write(name) => format!(in alloc; "6 write {name}\n"),
         Refusal::Memory => format!(in alloc; "7 memory\n"),
         Refusal::Resolution(kind, place) => resolution_line(alloc, kind, &place),
         Refusal::Text(line, kind) => text_line(alloc, line, kind),
+        Refusal::Jobs(line) => format!(in alloc; "10 jobs {line}\n"),
         Refusal::Image(offset) => format!(in alloc; "11 image {offset}\n"),
     }
 }

@@ -1,6 +1,7 @@
 // The resolution of objects.
 ghost use Rattle.std.specs.Prelude.{◌≡◌, ◌≤◌, All, IfOk, [], Some, true, length, vec_len, nat_le, sum_by, ◌^◌};
 ghost use Rattle.std.specs.List.{list_all};
+ghost use Rattle.lto_object.specs.Objects.{IsObject};
 ghost use Rattle.whopr_words.specs.Commands.{Resolve, words_of, is_file_name, are_objects};
 ghost use Rattle.whopr_top.specs.Reads.{contents_of};
 ghost use Rattle.whopr_top.specs.Judgements.{objects_from};
@@ -41,6 +42,7 @@ pub fn objects_of(alloc: Global, contents: &[Vec<u8>]) -> Result<Vec<Object<'_>>
     requires { All (λ bytes. vec_len bytes ≤ FILE_BYTES) contents.now }
     ensures exact { GivesObjects result (objects_from 0 (contents_of contents.now)) }
     ensures count { IfOk result (λ objects. vec_len objects ≡ length contents.now) }
+    ensures objects { IfOk result (λ objects. All IsObject objects.items) }
 {
     let mut objects = Vec::new(alloc);
     for (number, bytes) in contents.iter().enumerate() {
@@ -143,18 +145,18 @@ pub fn resolve<'a, F: FileStore>(
     ensures lined { Lined FILE_BYTES (Some (Resolve out.now (words_of objects.now))) (F.held files.old) (answer_of result) (text_of result) }
     ensures judged { Judged FILE_BYTES (Some (Resolve out.now (words_of objects.now))) (F.held files.old) (F.held files.new) (F.faults files.old) (F.faults files.new) (answer_of result) (text_of result) }
 {
-    let contents = match read_files(alloc, objects, files) {
+    let Ok(names) = names_of(alloc, objects) else {
+        return Err(Refusal::Memory);
+    };
+    let contents = match read_files(alloc, &names, files) {
         Ok(contents) => contents,
-        Err(ReadsFault::Failed(name)) => return Err(Refusal::Read(name)),
+        Err(ReadsFault::Failed(name)) => return Err(Refusal::ReadOf(name)),
         Err(ReadsFault::TooLong) => return Err(Refusal::TooLong),
         Err(ReadsFault::NoMemory) => return Err(Refusal::Memory),
     };
     if !is_within_batch(&contents) {
         return Err(Refusal::TooMuch);
     }
-    let Ok(names) = names_of(alloc, objects) else {
-        return Err(Refusal::Memory);
-    };
     let text = match resolution_of(alloc, &names, &contents) {
         Ok(text) => text,
         Err(ResolveFault::Object(number, fault)) => return Err(Refusal::Object(number, fault)),

@@ -1,5 +1,5 @@
 use Rattle.whopr_top.proofs.ObjectImages.{alone}
-use Rattle.std.proofs.Common.{ℕ, List, arith, [], ◌∷◌, ◌≡◌}
+use Rattle.std.proofs.Common.{arith}
 use Rattle.std.proofs.lemmas.Grind.{common_steps}
 use Rattle.whopr_top.proofs.compiling.image_by_object.Goals as goal
 

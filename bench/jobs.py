@@ -5,24 +5,22 @@
 
 Builds the proved program once, as `rt run` leaves it, or takes the one that WHOPR names. Each function calls one of the object before it,
 so that all of them are needed, and each object declares what it calls. Prints for some numbers of objects and of functions in each the
-median time of the whole command, with reading and writing, and its peak of resident memory. A link of more than 20,000 functions is
-refused once all objects are merged. It is no gate.
+least processor time of the whole command in some runs, with reading and writing, which other load disturbs least, and its peak of
+resident memory. It is no gate.
 """
 import os
 import shlex
-import statistics
 import subprocess
 import sys
 import tempfile
-import time
 
 TOP = os.path.dirname(os.path.dirname(os.path.abspath(__file__)))
 CRATE = os.path.join(TOP, "crates", "whopr")
-SIZES = ((80, 50), (160, 50), (80, 125), (80, 249), (80, 4000))
+SIZES = ((80, 50), (160, 50), (80, 125), (80, 249))
 
 
 def text_of(place, functions):
-    """The text of the object at a place, of so many functions; that at 0 has a `main` besides."""
+    """The text of the object at a place, of so many functions."""
     lines = []
     for number in range(functions):
         called = "f%d_%d" % (place - 1, number)
@@ -40,26 +38,23 @@ def main_of(place, functions):
     return "\n".join(lines + ["  return x;", "}", ""])
 
 
-def run(program, words, folder, statuses):
-    """The time of one run in milliseconds, and its peak of memory in MB."""
-    start = time.perf_counter()
+def run(program, words, folder):
+    """The processor time of one run in milliseconds, and its peak of memory in MB."""
     child = subprocess.Popen(program + words, cwd=folder, stdout=subprocess.DEVNULL)
     _, status, usage = os.wait4(child.pid, 0)
-    taken = (time.perf_counter() - start) * 1e3
-    if os.waitstatus_to_exitcode(status) not in statuses:
+    if status != 0:
         sys.exit("%s ended with %d" % (" ".join(words), os.waitstatus_to_exitcode(status)))
-    return taken, usage.ru_maxrss / 1024
+    return (usage.ru_utime + usage.ru_stime) * 1e3, usage.ru_maxrss / 1024
 
 
 def make(program, folder, objects, functions):
     """Makes the objects and a job file of one link, and gives the objects' names."""
     names = []
     for place in range(objects):
-        # A `main` of 8,192 statements at most calls the first functions of the last object but one.
-        text = main_of(objects - 2, min(functions, 4000)) if place == objects - 1 else text_of(place, functions)
+        text = main_of(objects - 2, functions) if place == objects - 1 else text_of(place, functions)
         open(os.path.join(folder, "t.g"), "w").write(text)
         names.append("%d.o" % place)
-        run(program, ["lgen", "t.g", names[-1]], folder, [0])
+        run(program, ["lgen", "t.g", names[-1]], folder)
     job = "link image r partitions 1 workers 1 growth 10 versions 4 objects %d" % objects
     open(os.path.join(folder, "jobs"), "w").write("\n".join(["batch 1 cache 1", job] + names + [""]))
     return names
@@ -79,11 +74,11 @@ def main():
         with tempfile.TemporaryDirectory() as folder:
             names = make(program, folder, objects, functions)
             size = sum(os.path.getsize(os.path.join(folder, name)) for name in names)
-            resolved = [run(program, ["resolve", "r"] + names, folder, [0]) for _ in range(runs)]
-            linked = [run(program, ["link", "jobs"], folder, [0, 4]) for _ in range(runs)]
+            resolved = [run(program, ["resolve", "r"] + names, folder) for _ in range(runs)]
+            linked = [run(program, ["link", "jobs"], folder) for _ in range(runs)]
             print("%8d %10d %12d %12.0f %10.1f %12.0f %10.1f" % (
-                objects, objects * functions, size, statistics.median(t for t, _ in resolved), max(m for _, m in resolved),
-                statistics.median(t for t, _ in linked), max(m for _, m in linked)))
+                objects, objects * functions, size, min(t for t, _ in resolved), max(m for _, m in resolved),
+                min(t for t, _ in linked), max(m for _, m in linked)))
 
 
 main()

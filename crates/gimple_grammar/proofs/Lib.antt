@@ -9,4 +9,6 @@ pub mod PieceLaws
 pub mod StatementLaws
 pub mod ItemLaws
 pub mod TextLaws
+pub mod Braces
+pub mod OutlineLaws
 pub mod StreamLaws

@@ -22,42 +22,41 @@ use std::alloc::Global;
 // ---- structs
 
 #[tactic(auto, unfolding(crate::specs::Items::field_text, crate::specs::Pieces::name))]
-fn field_text(alloc: Global, reader: &mut Reader<'_>) -> Result<FieldText, Failure>
+fn field_text<'a>(reader: &mut Reader<'a>) -> Result<FieldText<'a>, Failure>
     ensures { GivesOr result reader.new (field_text.read reader.old) }
 {
     let ty = scalar(reader)?;
-    let name = reader.name(alloc)?;
+    let name = reader.name()?;
     reader.expect_sign(Mark::Semicolon)?;
     Ok(FieldText { ty, name })
 }
 
-fn add_field(
-    alloc: Global,
-    reader: &mut Reader<'_>,
-    found: &mut List<FieldText>,
-) -> Result<(), Failure>
+fn add_field<'a>(reader: &mut Reader<'a>, found: &mut List<FieldText<'a>>) -> Result<(), Failure>
     ensures { AddsOne result found.old found.new reader.new (field_text.read reader.old) }
 {
-    let next = field_text(alloc, reader)?;
+    let next = field_text(reader)?;
     found.push(next)?;
     Ok(())
 }
 
-fn more_fields(alloc: Global, reader: &mut Reader<'_>) -> Result<List<FieldText>, Failure>
+fn more_fields<'a>(alloc: Global, reader: &mut Reader<'a>) -> Result<List<FieldText<'a>>, Failure>
     ensures { GivesOr result reader.new ((many (same (Sign Mark.CloseCurly)) field_text).read reader.old) }
 {
     let mut found = List::new(alloc);
     'more: while !reader.is_sign(Mark::CloseCurly) {
-        add_field(alloc, reader, &mut found)?;
+        add_field(reader, &mut found)?;
     }
     Ok(found)
 }
 
 #[tactic(auto, unfolding(crate::specs::Items::struct_text, crate::specs::Items::fields, crate::specs::Pieces::name))]
-fn struct_text(alloc: Global, reader: &mut Reader<'_>) -> Result<StructText, Failure>
+pub(crate) fn struct_text<'a>(
+    alloc: Global,
+    reader: &mut Reader<'a>,
+) -> Result<StructText<'a>, Failure>
     ensures { GivesOr result reader.new (struct_text.read reader.old) }
 {
-    let name = reader.name(alloc)?;
+    let name = reader.name()?;
     reader.expect_sign(Mark::OpenCurly)?;
     let fields = more_fields(alloc, reader)?;
     reader.expect_sign(Mark::CloseCurly)?;
@@ -67,8 +66,8 @@ fn struct_text(alloc: Global, reader: &mut Reader<'_>) -> Result<StructText, Fai
 
 // ---- heads
 
-fn headed(ty: ScalarType, name: Identifier, is_array: bool) -> Head
-    ensures { result ≡ headed ty name is_array }
+fn headed<'a>(ty: ScalarType, name: Identifier<'a>, is_array: bool) -> Head<'a>
+    ensures { result ≡ headed ty name.entry is_array }
 {
     if is_array {
         Head::Array(ElementType::Scalar(ty), name)
@@ -85,37 +84,37 @@ fn bracket(reader: &mut Reader<'_>) -> Result<bool, Failure>
 }
 
 #[tactic(auto, unfolding(crate::specs::Items::unsigned_head, crate::specs::Pieces::name))]
-fn unsigned_head(alloc: Global, reader: &mut Reader<'_>) -> Result<Head, Failure>
+fn unsigned_head<'a>(reader: &mut Reader<'a>) -> Result<Head<'a>, Failure>
     ensures { GivesOr result reader.new (unsigned_head.read reader.old) }
 {
     if reader.is_word(Keyword::Char) {
         reader.expect_word(Keyword::Char)?;
-        let name = reader.name(alloc)?;
+        let name = reader.name()?;
         reader.expect_sign(Mark::OpenSquare)?;
         return Ok(Head::Array(ElementType::UnsignedChar, name));
     }
     reader.expect_word(Keyword::Int)?;
-    let name = reader.name(alloc)?;
+    let name = reader.name()?;
     let is_array = bracket(reader)?;
     Ok(headed(ScalarType::UnsignedInt, name, is_array))
 }
 
 #[tactic(auto, unfolding(crate::specs::Items::head, crate::specs::Pieces::name))]
-fn head(alloc: Global, reader: &mut Reader<'_>) -> Result<Head, Failure>
+pub(crate) fn head<'a>(reader: &mut Reader<'a>) -> Result<Head<'a>, Failure>
     ensures { GivesOr result reader.new (head.read reader.old) }
 {
     if reader.is_word(Keyword::Void) {
         reader.expect_word(Keyword::Void)?;
-        let name = reader.name(alloc)?;
+        let name = reader.name()?;
         reader.expect_sign(Mark::OpenRound)?;
         return Ok(Head::Function(ResultType::Void, name));
     }
     if reader.is_word(Keyword::Unsigned) {
         reader.expect_word(Keyword::Unsigned)?;
-        return unsigned_head(alloc, reader);
+        return unsigned_head(reader);
     }
     let ty = int_or_long(reader)?;
-    let name = reader.name(alloc)?;
+    let name = reader.name()?;
     let is_array = bracket(reader)?;
     Ok(headed(ty, name, is_array))
 }
@@ -171,7 +170,7 @@ fn initials(
 }
 
 #[tactic(auto, unfolding(crate::specs::Items::array_rest, crate::specs::Pieces::array_length))]
-fn array_rest(
+pub(crate) fn array_rest(
     alloc: Global,
     reader: &mut Reader<'_>,
     element: ElementType,
@@ -187,32 +186,37 @@ fn array_rest(
 // ---- functions
 
 #[tactic(auto, unfolding(crate::specs::Items::parameter))]
-fn add_parameter(
-    alloc: Global,
-    reader: &mut Reader<'_>,
-    found: &mut List<Declared>,
+fn add_parameter<'a>(
+    reader: &mut Reader<'a>,
+    found: &mut List<Declared<'a>>,
 ) -> Result<bool, Failure>
     ensures { AddsNext result found.old found.new reader.new (parameter.read reader.old) }
 {
-    let next = variable(alloc, reader)?;
+    let next = variable(reader)?;
     let more = one_of(reader, Mark::Comma, Mark::CloseRound)?;
     found.push(next)?;
     Ok(more)
 }
 
-fn some_parameters(alloc: Global, reader: &mut Reader<'_>) -> Result<List<Declared>, Failure>
+fn some_parameters<'a>(
+    alloc: Global,
+    reader: &mut Reader<'a>,
+) -> Result<List<Declared<'a>>, Failure>
     ensures { GivesOr result reader.new ((chain parameter).read reader.old) }
 {
     let mut found = List::new(alloc);
     let mut more = true;
     'next: while more {
-        more = add_parameter(alloc, reader, &mut found)?;
+        more = add_parameter(reader, &mut found)?;
     }
     Ok(found)
 }
 
 #[tactic(auto, unfolding(crate::specs::Items::parameters))]
-fn parameters(alloc: Global, reader: &mut Reader<'_>) -> Result<Parameters, Failure>
+pub(crate) fn parameters<'a>(
+    alloc: Global,
+    reader: &mut Reader<'a>,
+) -> Result<Parameters<'a>, Failure>
     ensures { GivesOr result reader.new (parameters.read reader.old) }
 {
     if reader.is_sign(Mark::CloseRound) {
@@ -228,31 +232,27 @@ fn parameters(alloc: Global, reader: &mut Reader<'_>) -> Result<Parameters, Fail
 }
 
 #[tactic(auto, unfolding(crate::specs::Items::local))]
-fn add_local(
-    alloc: Global,
-    reader: &mut Reader<'_>,
-    found: &mut List<Declared>,
-) -> Result<(), Failure>
+fn add_local<'a>(reader: &mut Reader<'a>, found: &mut List<Declared<'a>>) -> Result<(), Failure>
     ensures { AddsOne result found.old found.new reader.new (local.read reader.old) }
 {
-    let next = variable(alloc, reader)?;
+    let next = variable(reader)?;
     reader.expect_sign(Mark::Semicolon)?;
     found.push(next)?;
     Ok(())
 }
 
-fn more_locals(alloc: Global, reader: &mut Reader<'_>) -> Result<List<Declared>, Failure>
+fn more_locals<'a>(alloc: Global, reader: &mut Reader<'a>) -> Result<List<Declared<'a>>, Failure>
     ensures { GivesOr result reader.new ((many no_type local).read reader.old) }
 {
     let mut found = List::new(alloc);
     'more: while is_type(reader) {
-        add_local(alloc, reader, &mut found)?;
+        add_local(reader, &mut found)?;
     }
     Ok(found)
 }
 
 #[tactic(auto, unfolding(crate::specs::Items::body))]
-fn body(alloc: Global, reader: &mut Reader<'_>) -> Result<Body, Failure>
+fn body<'a>(alloc: Global, reader: &mut Reader<'a>) -> Result<Body<'a>, Failure>
     ensures { GivesOr result reader.new (body.read reader.old) }
 {
     let locals = more_locals(alloc, reader)?;
@@ -261,7 +261,10 @@ fn body(alloc: Global, reader: &mut Reader<'_>) -> Result<Body, Failure>
 }
 
 #[tactic(auto, unfolding(crate::specs::Items::function_rest))]
-fn function_rest(alloc: Global, reader: &mut Reader<'_>) -> Result<(Parameters, Body), Failure>
+fn function_rest<'a>(
+    alloc: Global,
+    reader: &mut Reader<'a>,
+) -> Result<(Parameters<'a>, Body<'a>), Failure>
     ensures { GivesOr result reader.new (function_rest.read reader.old) }
 {
     let parameters = parameters(alloc, reader)?;
@@ -272,8 +275,12 @@ fn function_rest(alloc: Global, reader: &mut Reader<'_>) -> Result<(Parameters, 
 
 // ---- definitions and declarations
 
-fn defined_after(alloc: Global, reader: &mut Reader<'_>, head: Head) -> Result<Defined, Failure>
-    ensures { GivesOr result reader.new (defined_after head reader.old) }
+fn defined_after<'a>(
+    alloc: Global,
+    reader: &mut Reader<'a>,
+    head: Head<'a>,
+) -> Result<Defined<'a>, Failure>
+    ensures { GivesOr result reader.new (defined_after head.entry reader.old) }
 {
     match head {
         Head::Array(element, name) => {
@@ -298,10 +305,10 @@ fn defined_after(alloc: Global, reader: &mut Reader<'_>, head: Head) -> Result<D
 }
 
 #[tactic(auto, unfolding(crate::specs::Items::defined))]
-fn defined(alloc: Global, reader: &mut Reader<'_>) -> Result<Defined, Failure>
+fn defined<'a>(alloc: Global, reader: &mut Reader<'a>) -> Result<Defined<'a>, Failure>
     ensures { GivesOr result reader.new (defined.read reader.old) }
 {
-    let head = head(alloc, reader)?;
+    let head = head(reader)?;
     defined_after(alloc, reader, head)
 }
 
@@ -315,7 +322,7 @@ fn extern_length(reader: &mut Reader<'_>) -> Result<u32, Failure>
     Ok(length)
 }
 
-fn extern_parameters(alloc: Global, reader: &mut Reader<'_>) -> Result<Parameters, Failure>
+fn extern_parameters<'a>(alloc: Global, reader: &mut Reader<'a>) -> Result<Parameters<'a>, Failure>
     ensures { GivesOr result reader.new ((parameters ◁ Sign Mark.Semicolon).read reader.old) }
 {
     let found = parameters(alloc, reader)?;
@@ -323,8 +330,12 @@ fn extern_parameters(alloc: Global, reader: &mut Reader<'_>) -> Result<Parameter
     Ok(found)
 }
 
-fn extern_after(alloc: Global, reader: &mut Reader<'_>, head: Head) -> Result<Item, Failure>
-    ensures { GivesOr result reader.new (extern_after head reader.old) }
+fn extern_after<'a>(
+    alloc: Global,
+    reader: &mut Reader<'a>,
+    head: Head<'a>,
+) -> Result<Item<'a>, Failure>
+    ensures { GivesOr result reader.new (extern_after head.entry reader.old) }
 {
     match head {
         Head::Array(element, name) => {
@@ -348,15 +359,15 @@ fn extern_after(alloc: Global, reader: &mut Reader<'_>, head: Head) -> Result<It
 }
 
 #[tactic(auto, unfolding(crate::specs::Items::external))]
-fn external(alloc: Global, reader: &mut Reader<'_>) -> Result<Item, Failure>
+pub(crate) fn external<'a>(alloc: Global, reader: &mut Reader<'a>) -> Result<Item<'a>, Failure>
     ensures { GivesOr result reader.new (external.read reader.old) }
 {
-    let head = head(alloc, reader)?;
+    let head = head(reader)?;
     extern_after(alloc, reader, head)
 }
 
-fn with_linkage(linkage: Linkage, defined: Defined) -> Item
-    ensures { result ≡ with_linkage linkage defined }
+pub(crate) fn with_linkage<'a>(linkage: Linkage, defined: Defined<'a>) -> Item<'a>
+    ensures { result ≡ with_linkage linkage defined.entry }
 {
     match defined {
         Defined::Array(array) => Item::Array(linkage, array),
@@ -367,7 +378,7 @@ fn with_linkage(linkage: Linkage, defined: Defined) -> Item
 // ---- items
 
 #[tactic(auto, unfolding(crate::specs::Items::item))]
-fn item(alloc: Global, reader: &mut Reader<'_>) -> Result<Item, Failure>
+fn item<'a>(alloc: Global, reader: &mut Reader<'a>) -> Result<Item<'a>, Failure>
     ensures { GivesOr result reader.new (item.read reader.old) }
 {
     if reader.is_word(Keyword::Struct) {
@@ -394,7 +405,7 @@ fn item(alloc: Global, reader: &mut Reader<'_>) -> Result<Item, Failure>
 
 /// Reads an item with its line.
 #[tactic(auto, unfolding(crate::specs::Items::item_line))]
-pub(crate) fn item_line(alloc: Global, reader: &mut Reader<'_>) -> Result<ItemLine, Failure>
+pub(crate) fn item_line<'a>(alloc: Global, reader: &mut Reader<'a>) -> Result<ItemLine<'a>, Failure>
     ensures { GivesOr result reader.new (item_line.read reader.old) }
 {
     let line = reader.line();
@@ -402,10 +413,10 @@ pub(crate) fn item_line(alloc: Global, reader: &mut Reader<'_>) -> Result<ItemLi
     Ok(ItemLine { line, item })
 }
 
-fn add_item(
+fn add_item<'a>(
     alloc: Global,
-    reader: &mut Reader<'_>,
-    found: &mut List<ItemLine>,
+    reader: &mut Reader<'a>,
+    found: &mut List<ItemLine<'a>>,
 ) -> Result<(), Failure>
     ensures { AddsOne result found.old found.new reader.new (item_line.read reader.old) }
 {
@@ -415,7 +426,10 @@ fn add_item(
 }
 
 /// Reads the items of a text, up to its end.
-pub(crate) fn more_items(alloc: Global, reader: &mut Reader<'_>) -> Result<List<ItemLine>, Failure>
+pub(crate) fn more_items<'a>(
+    alloc: Global,
+    reader: &mut Reader<'a>,
+) -> Result<List<ItemLine<'a>>, Failure>
     ensures given { GivesOr result reader.new ((many (same End) item_line).read reader.old) }
     ensures end { IfOk result (λ items. reader.new ≡ placed End (line_of reader.new) ∷ []) }
 {

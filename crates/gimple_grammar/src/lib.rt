@@ -6,6 +6,7 @@
 #![tactic(auto)]
 
 mod items;
+mod outlines;
 mod parts;
 mod pieces;
 mod statements;
@@ -13,7 +14,7 @@ mod stream;
 mod syntax;
 mod text;
 
-pub use stream::next_item;
+pub use stream::{next_item, next_outline};
 pub use syntax::{
     ArrayText, Binary, Body, CaseLabel, Choice, Condition, Declared, FieldText, Form, FunctionText,
     Item, ItemLine, Line, Literal, Operand, Parameters, Place, Right, StructText, Tail, Type,

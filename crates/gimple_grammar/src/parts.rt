@@ -6,32 +6,32 @@ use gimple_tokens::Identifier;
 
 /// What stands after the first operand on the right of `=`: `;` or `+ b;`.
 #[derive(Debug, Drop)]
-pub(crate) enum After {
+pub(crate) enum After<'a> {
     End,
-    Binary(BinaryOp, Operand),
+    Binary(BinaryOp, Operand<'a>),
 }
 
 /// What stands after a name on the right of `=`.
 #[derive(Debug, Drop)]
-pub(crate) enum NameTail {
+pub(crate) enum NameTail<'a> {
     /// `[a];`
-    Load(Operand),
+    Load(Operand<'a>),
     /// `(a, s);`
-    Call(List<Operand>),
+    Call(List<Operand<'a>>),
     /// `.f` or nothing, and what stands after that operand
-    Value(Option<Identifier>, After),
+    Value(Option<Identifier<'a>>, After<'a>),
 }
 
 /// The type and the name of an array or a function, and the bracket after them: `int A [` or `int f (`.
 #[derive(Debug, Drop)]
-pub(crate) enum Head {
-    Array(ElementType, Identifier),
-    Function(ResultType, Identifier),
+pub(crate) enum Head<'a> {
+    Array(ElementType, Identifier<'a>),
+    Function(ResultType, Identifier<'a>),
 }
 
 /// A definition without its linkage.
 #[derive(Debug, Drop)]
-pub(crate) enum Defined {
-    Array(ArrayText),
-    Function(FunctionText, Body),
+pub(crate) enum Defined<'a> {
+    Array(ArrayText<'a>),
+    Function(FunctionText<'a>, Body<'a>),
 }

@@ -30,33 +30,33 @@ pub(crate) fn literal(reader: &mut Reader<'_>, place: NumberPlace) -> Result<Lit
 }
 
 #[tactic(auto, unfolding(crate::specs::Pieces::field_at, crate::specs::Pieces::name))]
-fn field(alloc: Global, reader: &mut Reader<'_>) -> Result<Option<Identifier>, Failure>
+fn field<'a>(reader: &mut Reader<'a>) -> Result<Option<Identifier<'a>>, Failure>
     ensures { GivesOr result reader.new (field_at reader.old) }
 {
     if reader.is_sign(Mark::Dot) {
         reader.expect_sign(Mark::Dot)?;
-        return Ok(Some(reader.name(alloc)?));
+        return Ok(Some(reader.name()?));
     }
     Ok(None)
 }
 
 /// Reads a variable or a field of one.
 #[tactic(auto, unfolding(crate::specs::Pieces::place, crate::specs::Pieces::name))]
-pub(crate) fn place(alloc: Global, reader: &mut Reader<'_>) -> Result<Place, Failure>
+pub(crate) fn place<'a>(reader: &mut Reader<'a>) -> Result<Place<'a>, Failure>
     ensures { GivesOr result reader.new (place.read reader.old) }
 {
-    let name = reader.name(alloc)?;
-    let field = field(alloc, reader)?;
+    let name = reader.name()?;
+    let field = field(reader)?;
     Ok(Place { name, field })
 }
 
 /// Reads a place or a literal.
 #[tactic(auto, unfolding(crate::specs::Pieces::operand, crate::specs::Pieces::place, crate::specs::Pieces::name))]
-pub(crate) fn operand(alloc: Global, reader: &mut Reader<'_>) -> Result<Operand, Failure>
+pub(crate) fn operand<'a>(reader: &mut Reader<'a>) -> Result<Operand<'a>, Failure>
     ensures { GivesOr result reader.new (operand.read reader.old) }
 {
     if reader.has_name() {
-        return Ok(Operand::Place(place(alloc, reader)?));
+        return Ok(Operand::Place(place(reader)?));
     }
     Ok(Operand::Literal(literal(reader, NumberPlace::Literal)?))
 }
@@ -75,33 +75,32 @@ pub(crate) fn one_of(reader: &mut Reader<'_>, first: Mark, second: Mark) -> Resu
 }
 
 #[tactic(auto, unfolding(crate::specs::Pieces::argument))]
-fn add_argument(
-    alloc: Global,
-    reader: &mut Reader<'_>,
-    found: &mut List<Operand>,
-) -> Result<bool, Failure>
+fn add_argument<'a>(reader: &mut Reader<'a>, found: &mut List<Operand<'a>>) -> Result<bool, Failure>
     ensures { AddsNext result found.old found.new reader.new (argument.read reader.old) }
 {
-    let next = operand(alloc, reader)?;
+    let next = operand(reader)?;
     let more = one_of(reader, Mark::Comma, Mark::CloseRound)?;
     found.push(next)?;
     Ok(more)
 }
 
-fn some_arguments(alloc: Global, reader: &mut Reader<'_>) -> Result<List<Operand>, Failure>
+fn some_arguments<'a>(alloc: Global, reader: &mut Reader<'a>) -> Result<List<Operand<'a>>, Failure>
     ensures { GivesOr result reader.new ((chain argument).read reader.old) }
 {
     let mut found = List::new(alloc);
     let mut more = true;
     'next: while more {
-        more = add_argument(alloc, reader, &mut found)?;
+        more = add_argument(reader, &mut found)?;
     }
     Ok(found)
 }
 
 /// Reads what stands between the brackets of a call, and the bracket that closes.
 #[tactic(auto, unfolding(crate::specs::Pieces::arguments))]
-pub(crate) fn arguments(alloc: Global, reader: &mut Reader<'_>) -> Result<List<Operand>, Failure>
+pub(crate) fn arguments<'a>(
+    alloc: Global,
+    reader: &mut Reader<'a>,
+) -> Result<List<Operand<'a>>, Failure>
     ensures { GivesOr result reader.new (arguments.read reader.old) }
 {
     if reader.is_sign(Mark::CloseRound) {
@@ -152,20 +151,20 @@ pub(crate) fn scalar(reader: &mut Reader<'_>) -> Result<ScalarType, Failure>
 
 /// Reads a variable with its type.
 #[tactic(auto, unfolding(crate::specs::Pieces::variable, crate::specs::Pieces::name))]
-pub(crate) fn variable(alloc: Global, reader: &mut Reader<'_>) -> Result<Declared, Failure>
+pub(crate) fn variable<'a>(reader: &mut Reader<'a>) -> Result<Declared<'a>, Failure>
     ensures { GivesOr result reader.new (variable.read reader.old) }
 {
     if reader.is_word(Keyword::Struct) {
         reader.expect_word(Keyword::Struct)?;
-        let tag = reader.name(alloc)?;
-        let name = reader.name(alloc)?;
+        let tag = reader.name()?;
+        let name = reader.name()?;
         return Ok(Declared {
             ty: Type::Struct(tag),
             name,
         });
     }
     let ty = scalar(reader)?;
-    let name = reader.name(alloc)?;
+    let name = reader.name()?;
     Ok(Declared {
         ty: Type::Scalar(ty),
         name,

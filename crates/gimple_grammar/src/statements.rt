@@ -20,7 +20,7 @@ use std::alloc::Global;
 // ---- what stands on the right of `=`
 
 #[tactic(auto, unfolding(crate::specs::Statements::after, crate::specs::Pieces::operator))]
-fn after(alloc: Global, reader: &mut Reader<'_>) -> Result<After, Failure>
+fn after<'a>(reader: &mut Reader<'a>) -> Result<After<'a>, Failure>
     ensures { GivesOr result reader.new (after.read reader.old) }
 {
     if reader.is_sign(Mark::Semicolon) {
@@ -28,14 +28,14 @@ fn after(alloc: Global, reader: &mut Reader<'_>) -> Result<After, Failure>
         return Ok(After::End);
     }
     let op = reader.operator()?;
-    let right = operand(alloc, reader)?;
+    let right = operand(reader)?;
     reader.expect_sign(Mark::Semicolon)?;
     Ok(After::Binary(op, right))
 }
 
 // The right side of which this is the first operand.
-fn value_of(left: Operand, after: After) -> Right
-    ensures { result ≡ value_of left after }
+fn value_of<'a>(left: Operand<'a>, after: After<'a>) -> Right<'a>
+    ensures { result ≡ value_of left.entry after.entry }
 {
     match after {
         After::End => Right::Value(left),
@@ -45,11 +45,11 @@ fn value_of(left: Operand, after: After) -> Right
 
 // A number, and what stands after it.
 #[tactic(auto, unfolding(crate::specs::Pieces::number))]
-fn number_first(alloc: Global, reader: &mut Reader<'_>, negative: bool) -> Result<Right, Failure>
+fn number_first<'a>(reader: &mut Reader<'a>, negative: bool) -> Result<Right<'a>, Failure>
     ensures { GivesOr result reader.new ((only (number NumberPlace.Literal negative then after) (number_made negative) (number_parts negative)).read reader.old) }
 {
     let (number, suffix) = reader.number_at(NumberPlace::Literal, negative)?;
-    let after = after(alloc, reader)?;
+    let after = after(reader)?;
     let literal = Literal {
         negative,
         number,
@@ -59,11 +59,11 @@ fn number_first(alloc: Global, reader: &mut Reader<'_>, negative: bool) -> Resul
 }
 
 #[tactic(auto, unfolding(crate::specs::Statements::negative, crate::specs::Pieces::place, crate::specs::Pieces::name, crate::specs::Pieces::number))]
-fn negative(alloc: Global, reader: &mut Reader<'_>) -> Result<Right, Failure>
+fn negative<'a>(reader: &mut Reader<'a>) -> Result<Right<'a>, Failure>
     ensures { GivesOr result reader.new (negative.read reader.old) }
 {
     if reader.has_name() {
-        let place = place(alloc, reader)?;
+        let place = place(reader)?;
         reader.expect_sign(Mark::Semicolon)?;
         return Ok(Right::Negate(Operand::Place(place)));
     }
@@ -77,16 +77,16 @@ fn negative(alloc: Global, reader: &mut Reader<'_>) -> Result<Right, Failure>
             suffix,
         })));
     }
-    number_first(alloc, reader, true)
+    number_first(reader, true)
 }
 
 #[tactic(auto, unfolding(crate::specs::Statements::name_tail, crate::specs::Pieces::name))]
-fn name_tail(alloc: Global, reader: &mut Reader<'_>) -> Result<NameTail, Failure>
+fn name_tail<'a>(alloc: Global, reader: &mut Reader<'a>) -> Result<NameTail<'a>, Failure>
     ensures { GivesOr result reader.new (name_tail.read reader.old) }
 {
     if reader.is_sign(Mark::OpenSquare) {
         reader.expect_sign(Mark::OpenSquare)?;
-        let index = operand(alloc, reader)?;
+        let index = operand(reader)?;
         reader.expect_sign(Mark::CloseSquare)?;
         reader.expect_sign(Mark::Semicolon)?;
         return Ok(NameTail::Load(index));
@@ -99,16 +99,16 @@ fn name_tail(alloc: Global, reader: &mut Reader<'_>) -> Result<NameTail, Failure
     }
     if reader.is_sign(Mark::Dot) {
         reader.expect_sign(Mark::Dot)?;
-        let field = reader.name(alloc)?;
-        let after = after(alloc, reader)?;
+        let field = reader.name()?;
+        let after = after(reader)?;
         return Ok(NameTail::Value(Some(field), after));
     }
-    Ok(NameTail::Value(None, after(alloc, reader)?))
+    Ok(NameTail::Value(None, after(reader)?))
 }
 
 // The right side that begins with this name.
-fn named_by(name: Identifier, tail: NameTail) -> Right
-    ensures { result ≡ named_by name tail }
+fn named_by<'a>(name: Identifier<'a>, tail: NameTail<'a>) -> Right<'a>
+    ensures { result ≡ named_by name.entry tail.entry }
 {
     match tail {
         NameTail::Load(index) => Right::Load(name, index),
@@ -118,12 +118,12 @@ fn named_by(name: Identifier, tail: NameTail) -> Right
 }
 
 #[tactic(auto, unfolding(crate::specs::Statements::right, crate::specs::Pieces::name))]
-fn right(alloc: Global, reader: &mut Reader<'_>) -> Result<Right, Failure>
+fn right<'a>(alloc: Global, reader: &mut Reader<'a>) -> Result<Right<'a>, Failure>
     ensures { GivesOr result reader.new (right.read reader.old) }
 {
     if reader.is_sign(Mark::Tilde) {
         reader.expect_sign(Mark::Tilde)?;
-        let of = operand(alloc, reader)?;
+        let of = operand(reader)?;
         reader.expect_sign(Mark::Semicolon)?;
         return Ok(Right::Complement(of));
     }
@@ -131,26 +131,26 @@ fn right(alloc: Global, reader: &mut Reader<'_>) -> Result<Right, Failure>
         reader.expect_sign(Mark::OpenRound)?;
         let ty = scalar(reader)?;
         reader.expect_sign(Mark::CloseRound)?;
-        let of = operand(alloc, reader)?;
+        let of = operand(reader)?;
         reader.expect_sign(Mark::Semicolon)?;
         return Ok(Right::Convert(ty, of));
     }
     if reader.is_sign(Mark::Minus) {
         reader.expect_sign(Mark::Minus)?;
-        return negative(alloc, reader);
+        return negative(reader);
     }
     if reader.has_name() {
-        let name = reader.name(alloc)?;
+        let name = reader.name()?;
         let tail = name_tail(alloc, reader)?;
         return Ok(named_by(name, tail));
     }
-    number_first(alloc, reader, false)
+    number_first(reader, false)
 }
 
 // ---- what stands after a name that begins a statement
 
 #[tactic(auto, unfolding(crate::specs::Statements::tail, crate::specs::Pieces::name))]
-fn tail(alloc: Global, reader: &mut Reader<'_>) -> Result<Tail, Failure>
+fn tail<'a>(alloc: Global, reader: &mut Reader<'a>) -> Result<Tail<'a>, Failure>
     ensures { GivesOr result reader.new (tail.read reader.old) }
 {
     if reader.is_sign(Mark::Colon) {
@@ -164,11 +164,11 @@ fn tail(alloc: Global, reader: &mut Reader<'_>) -> Result<Tail, Failure>
         return Ok(Tail::Call(arguments));
     }
     if reader.is_sign(Mark::OpenSquare) {
-        return store(alloc, reader);
+        return store(reader);
     }
     if reader.is_sign(Mark::Dot) {
         reader.expect_sign(Mark::Dot)?;
-        let field = reader.name(alloc)?;
+        let field = reader.name()?;
         reader.expect_sign(Mark::Equals)?;
         return Ok(Tail::AssignField(field, right(alloc, reader)?));
     }
@@ -177,14 +177,14 @@ fn tail(alloc: Global, reader: &mut Reader<'_>) -> Result<Tail, Failure>
 }
 
 // `[a] = b;`
-fn store(alloc: Global, reader: &mut Reader<'_>) -> Result<Tail, Failure>
+fn store<'a>(reader: &mut Reader<'a>) -> Result<Tail<'a>, Failure>
     ensures { GivesOr result reader.new ((only (Sign Mark.OpenSquare ▷ operand ◁ Sign Mark.CloseSquare then Sign Mark.Equals ▷ operand ◁ Sign Mark.Semicolon) store_made store_of).read reader.old) }
 {
     reader.expect_sign(Mark::OpenSquare)?;
-    let index = operand(alloc, reader)?;
+    let index = operand(reader)?;
     reader.expect_sign(Mark::CloseSquare)?;
     reader.expect_sign(Mark::Equals)?;
-    let from = operand(alloc, reader)?;
+    let from = operand(reader)?;
     reader.expect_sign(Mark::Semicolon)?;
     Ok(Tail::Store(index, from))
 }
@@ -192,29 +192,29 @@ fn store(alloc: Global, reader: &mut Reader<'_>) -> Result<Tail, Failure>
 // ---- what stands after `if`, `switch` and `return`
 
 #[tactic(auto, unfolding(crate::specs::Statements::branches, crate::specs::Pieces::name))]
-fn branches(alloc: Global, reader: &mut Reader<'_>) -> Result<(Identifier, Identifier), Failure>
+fn branches<'a>(reader: &mut Reader<'a>) -> Result<(Identifier<'a>, Identifier<'a>), Failure>
     ensures { GivesOr result reader.new (branches.read reader.old) }
 {
     reader.expect_word(Keyword::Goto)?;
-    let met = reader.name(alloc)?;
+    let met = reader.name()?;
     reader.expect_sign(Mark::Semicolon)?;
     reader.expect_word(Keyword::Else)?;
     reader.expect_word(Keyword::Goto)?;
-    let missed = reader.name(alloc)?;
+    let missed = reader.name()?;
     reader.expect_sign(Mark::Semicolon)?;
     Ok((met, missed))
 }
 
 #[tactic(auto, unfolding(crate::specs::Statements::condition, crate::specs::Pieces::operator))]
-fn condition(alloc: Global, reader: &mut Reader<'_>) -> Result<Condition, Failure>
+fn condition<'a>(reader: &mut Reader<'a>) -> Result<Condition<'a>, Failure>
     ensures { GivesOr result reader.new (condition.read reader.old) }
 {
     reader.expect_sign(Mark::OpenRound)?;
-    let left = operand(alloc, reader)?;
+    let left = operand(reader)?;
     let op = reader.operator()?;
-    let right = operand(alloc, reader)?;
+    let right = operand(reader)?;
     reader.expect_sign(Mark::CloseRound)?;
-    let (met, missed) = branches(alloc, reader)?;
+    let (met, missed) = branches(reader)?;
     Ok(Condition {
         left,
         op,
@@ -225,50 +225,46 @@ fn condition(alloc: Global, reader: &mut Reader<'_>) -> Result<Condition, Failur
 }
 
 #[tactic(auto, unfolding(crate::specs::Statements::case_label, crate::specs::Pieces::name))]
-fn case_label(alloc: Global, reader: &mut Reader<'_>) -> Result<CaseLabel, Failure>
+fn case_label<'a>(reader: &mut Reader<'a>) -> Result<CaseLabel<'a>, Failure>
     ensures { GivesOr result reader.new (case_label.read reader.old) }
 {
     reader.expect_sign(Mark::Comma)?;
     reader.expect_word(Keyword::Case)?;
     let value = literal(reader, NumberPlace::Literal)?;
     reader.expect_sign(Mark::Colon)?;
-    let label = reader.name(alloc)?;
+    let label = reader.name()?;
     Ok(CaseLabel { value, label })
 }
 
-fn add_case(
-    alloc: Global,
-    reader: &mut Reader<'_>,
-    found: &mut List<CaseLabel>,
-) -> Result<(), Failure>
+fn add_case<'a>(reader: &mut Reader<'a>, found: &mut List<CaseLabel<'a>>) -> Result<(), Failure>
     ensures { AddsOne result found.old found.new reader.new (case_label.read reader.old) }
 {
-    let next = case_label(alloc, reader)?;
+    let next = case_label(reader)?;
     found.push(next)?;
     Ok(())
 }
 
-fn more_cases(alloc: Global, reader: &mut Reader<'_>) -> Result<List<CaseLabel>, Failure>
+fn more_cases<'a>(alloc: Global, reader: &mut Reader<'a>) -> Result<List<CaseLabel<'a>>, Failure>
     ensures { GivesOr result reader.new ((many (same (Sign Mark.Greater)) case_label).read reader.old) }
 {
     let mut found = List::new(alloc);
     'more: while !reader.is_sign(Mark::Greater) {
-        add_case(alloc, reader, &mut found)?;
+        add_case(reader, &mut found)?;
     }
     Ok(found)
 }
 
 #[tactic(auto, unfolding(crate::specs::Statements::selection, crate::specs::Statements::cases, crate::specs::Pieces::name))]
-fn selection(alloc: Global, reader: &mut Reader<'_>) -> Result<Choice, Failure>
+fn selection<'a>(alloc: Global, reader: &mut Reader<'a>) -> Result<Choice<'a>, Failure>
     ensures { GivesOr result reader.new (selection.read reader.old) }
 {
     reader.expect_sign(Mark::OpenRound)?;
-    let on = operand(alloc, reader)?;
+    let on = operand(reader)?;
     reader.expect_sign(Mark::CloseRound)?;
     reader.expect_sign(Mark::Less)?;
     reader.expect_word(Keyword::Default)?;
     reader.expect_sign(Mark::Colon)?;
-    let otherwise = reader.name(alloc)?;
+    let otherwise = reader.name()?;
     let cases = more_cases(alloc, reader)?;
     reader.expect_sign(Mark::Greater)?;
     reader.expect_sign(Mark::Semicolon)?;
@@ -280,14 +276,14 @@ fn selection(alloc: Global, reader: &mut Reader<'_>) -> Result<Choice, Failure>
 }
 
 #[tactic(auto, unfolding(crate::specs::Statements::returned))]
-fn returned(alloc: Global, reader: &mut Reader<'_>) -> Result<Option<Operand>, Failure>
+fn returned<'a>(reader: &mut Reader<'a>) -> Result<Option<Operand<'a>>, Failure>
     ensures { GivesOr result reader.new (returned.read reader.old) }
 {
     if reader.is_sign(Mark::Semicolon) {
         reader.expect_sign(Mark::Semicolon)?;
         return Ok(None);
     }
-    let value = operand(alloc, reader)?;
+    let value = operand(reader)?;
     reader.expect_sign(Mark::Semicolon)?;
     Ok(Some(value))
 }
@@ -295,7 +291,7 @@ fn returned(alloc: Global, reader: &mut Reader<'_>) -> Result<Option<Operand>, F
 // ---- statements
 
 #[tactic(auto, unfolding(crate::specs::Statements::form, crate::specs::Pieces::name))]
-fn form(alloc: Global, reader: &mut Reader<'_>) -> Result<Form, Failure>
+fn form<'a>(alloc: Global, reader: &mut Reader<'a>) -> Result<Form<'a>, Failure>
     ensures { GivesOr result reader.new (form.read reader.old) }
 {
     if reader.is_sign(Mark::Semicolon) {
@@ -304,13 +300,13 @@ fn form(alloc: Global, reader: &mut Reader<'_>) -> Result<Form, Failure>
     }
     if reader.is_word(Keyword::Goto) {
         reader.expect_word(Keyword::Goto)?;
-        let label = reader.name(alloc)?;
+        let label = reader.name()?;
         reader.expect_sign(Mark::Semicolon)?;
         return Ok(Form::Goto(label));
     }
     if reader.is_word(Keyword::If) {
         reader.expect_word(Keyword::If)?;
-        return Ok(Form::If(condition(alloc, reader)?));
+        return Ok(Form::If(condition(reader)?));
     }
     if reader.is_word(Keyword::Switch) {
         reader.expect_word(Keyword::Switch)?;
@@ -318,15 +314,15 @@ fn form(alloc: Global, reader: &mut Reader<'_>) -> Result<Form, Failure>
     }
     if reader.is_word(Keyword::Return) {
         reader.expect_word(Keyword::Return)?;
-        return Ok(Form::Return(returned(alloc, reader)?));
+        return Ok(Form::Return(returned(reader)?));
     }
-    let name = reader.name(alloc)?;
+    let name = reader.name()?;
     let tail = tail(alloc, reader)?;
     Ok(Form::Named(name, tail))
 }
 
 #[tactic(auto, unfolding(crate::specs::Statements::statement))]
-fn statement(alloc: Global, reader: &mut Reader<'_>) -> Result<Line, Failure>
+fn statement<'a>(alloc: Global, reader: &mut Reader<'a>) -> Result<Line<'a>, Failure>
     ensures { GivesOr result reader.new (statement.read reader.old) }
 {
     let line = reader.line();
@@ -334,10 +330,10 @@ fn statement(alloc: Global, reader: &mut Reader<'_>) -> Result<Line, Failure>
     Ok(Line { line, form })
 }
 
-fn add_statement(
+fn add_statement<'a>(
     alloc: Global,
-    reader: &mut Reader<'_>,
-    found: &mut List<Line>,
+    reader: &mut Reader<'a>,
+    found: &mut List<Line<'a>>,
 ) -> Result<(), Failure>
     ensures { AddsOne result found.old found.new reader.new (statement.read reader.old) }
 {
@@ -346,7 +342,7 @@ fn add_statement(
     Ok(())
 }
 
-fn more_statements(alloc: Global, reader: &mut Reader<'_>) -> Result<List<Line>, Failure>
+fn more_statements<'a>(alloc: Global, reader: &mut Reader<'a>) -> Result<List<Line<'a>>, Failure>
     ensures { GivesOr result reader.new ((many (same (Sign Mark.CloseCurly)) statement).read reader.old) }
 {
     let mut found = List::new(alloc);
@@ -358,7 +354,10 @@ fn more_statements(alloc: Global, reader: &mut Reader<'_>) -> Result<List<Line>,
 
 /// Reads statements, and the brace that closes.
 #[tactic(auto, unfolding(crate::specs::Statements::statements))]
-pub(crate) fn statements(alloc: Global, reader: &mut Reader<'_>) -> Result<List<Line>, Failure>
+pub(crate) fn statements<'a>(
+    alloc: Global,
+    reader: &mut Reader<'a>,
+) -> Result<List<Line<'a>>, Failure>
     ensures { GivesOr result reader.new (statements.read reader.old) }
 {
     let found = more_statements(alloc, reader)?;

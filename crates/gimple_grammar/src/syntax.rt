@@ -13,140 +13,140 @@ pub struct Literal {
 
 /// A variable, or a field of one: `a` or `a.f`.
 #[derive(Debug, Drop)]
-pub struct Place {
-    pub name: Identifier,
-    pub field: Option<Identifier>,
+pub struct Place<'a> {
+    pub name: Identifier<'a>,
+    pub field: Option<Identifier<'a>>,
 }
 
 /// What is read or passed.
 #[derive(Debug, Drop)]
-pub enum Operand {
-    Place(Place),
+pub enum Operand<'a> {
+    Place(Place<'a>),
     Literal(Literal),
 }
 
 /// `a + b`.
 #[derive(Debug, Drop)]
-pub struct Binary {
-    pub left: Operand,
+pub struct Binary<'a> {
+    pub left: Operand<'a>,
     pub op: BinaryOp,
-    pub right: Operand,
+    pub right: Operand<'a>,
 }
 
 /// What stands after `=`. A `-` before a number belongs to the literal.
 #[derive(Debug, Drop)]
-pub enum Right {
+pub enum Right<'a> {
     /// `a;`
-    Value(Operand),
+    Value(Operand<'a>),
     /// `a + b;`
-    Binary(Binary),
+    Binary(Binary<'a>),
     /// `-a;`, where `- -5;` negates the literal -5
-    Negate(Operand),
+    Negate(Operand<'a>),
     /// `~a;`
-    Complement(Operand),
+    Complement(Operand<'a>),
     /// `(unsigned int) a;`
-    Convert(ScalarType, Operand),
+    Convert(ScalarType, Operand<'a>),
     /// `A[a];`
-    Load(Identifier, Operand),
+    Load(Identifier<'a>, Operand<'a>),
     /// `f (a, s);`
-    Call(Identifier, List<Operand>),
+    Call(Identifier<'a>, List<Operand<'a>>),
 }
 
 /// What stands after a name that begins a statement.
 #[derive(Debug, Drop)]
-pub enum Tail {
+pub enum Tail<'a> {
     /// `:`
     Label,
     /// `(a, s);`
-    Call(List<Operand>),
+    Call(List<Operand<'a>>),
     /// `[a] = b;`
-    Store(Operand, Operand),
+    Store(Operand<'a>, Operand<'a>),
     /// `= right`
-    Assign(Right),
+    Assign(Right<'a>),
     /// `.f = right`
-    AssignField(Identifier, Right),
+    AssignField(Identifier<'a>, Right<'a>),
 }
 
 /// `if (left op right) goto met; else goto missed;`, with any binary operator.
 #[derive(Debug, Drop)]
-pub struct Condition {
-    pub left: Operand,
+pub struct Condition<'a> {
+    pub left: Operand<'a>,
     pub op: BinaryOp,
-    pub right: Operand,
-    pub met: Identifier,
-    pub missed: Identifier,
+    pub right: Operand<'a>,
+    pub met: Identifier<'a>,
+    pub missed: Identifier<'a>,
 }
 
 /// `case value: label`.
 #[derive(Debug, Drop)]
-pub struct CaseLabel {
+pub struct CaseLabel<'a> {
     pub value: Literal,
-    pub label: Identifier,
+    pub label: Identifier<'a>,
 }
 
 /// `switch (on) <default: otherwise, case 1: M>;`. There may be no case.
 #[derive(Debug, Drop)]
-pub struct Choice {
-    pub on: Operand,
-    pub otherwise: Identifier,
-    pub cases: List<CaseLabel>,
+pub struct Choice<'a> {
+    pub on: Operand<'a>,
+    pub otherwise: Identifier<'a>,
+    pub cases: List<CaseLabel<'a>>,
 }
 
 /// A statement or a label.
 #[derive(Debug, Drop)]
-pub enum Form {
+pub enum Form<'a> {
     /// `;`
     Empty,
     /// `goto L;`
-    Goto(Identifier),
-    If(Condition),
-    Switch(Choice),
+    Goto(Identifier<'a>),
+    If(Condition<'a>),
+    Switch(Choice<'a>),
     /// `return;` or `return a;`
-    Return(Option<Operand>),
+    Return(Option<Operand<'a>>),
     /// All that begins with a name.
-    Named(Identifier, Tail),
+    Named(Identifier<'a>, Tail<'a>),
 }
 
 /// A statement and the line of its first token, from 1.
 #[derive(Debug, Drop)]
-pub struct Line {
+pub struct Line<'a> {
     pub line: u32,
-    pub form: Form,
+    pub form: Form<'a>,
 }
 
 /// The type of a variable; a struct by its name.
 #[derive(Debug, Drop)]
-pub enum Type {
+pub enum Type<'a> {
     Scalar(ScalarType),
-    Struct(Identifier),
+    Struct(Identifier<'a>),
 }
 
 /// A variable: `int x` or `struct p s`.
 #[derive(Debug, Drop)]
-pub struct Declared {
-    pub ty: Type,
-    pub name: Identifier,
+pub struct Declared<'a> {
+    pub ty: Type<'a>,
+    pub name: Identifier<'a>,
 }
 
 /// A field of a struct: `int x;`.
 #[derive(Debug, Drop)]
-pub struct FieldText {
+pub struct FieldText<'a> {
     pub ty: ScalarType,
-    pub name: Identifier,
+    pub name: Identifier<'a>,
 }
 
 /// `struct p { int x; int y; };`.
 #[derive(Debug, Drop)]
-pub struct StructText {
-    pub name: Identifier,
-    pub fields: List<FieldText>,
+pub struct StructText<'a> {
+    pub name: Identifier<'a>,
+    pub fields: List<FieldText<'a>>,
 }
 
 /// `int A[4] = {1, 2};`. The initial values are empty where no `=` stands, and only there.
 #[derive(Debug, Drop)]
-pub struct ArrayText {
+pub struct ArrayText<'a> {
     pub element: ElementType,
-    pub name: Identifier,
+    pub name: Identifier<'a>,
     /// In elements.
     pub length: u32,
     pub initial: List<Literal>,
@@ -154,41 +154,41 @@ pub struct ArrayText {
 
 /// What stands between the brackets after a function's name: nothing, `void`, or one variable at least.
 #[derive(Debug, Drop)]
-pub enum Parameters {
+pub enum Parameters<'a> {
     None,
     Void,
-    Some(List<Declared>),
+    Some(List<Declared<'a>>),
 }
 
 /// The head of a function: `int f (int a, struct p b)`.
 #[derive(Debug, Drop)]
-pub struct FunctionText {
+pub struct FunctionText<'a> {
     pub result: ResultType,
-    pub name: Identifier,
-    pub parameters: Parameters,
+    pub name: Identifier<'a>,
+    pub parameters: Parameters<'a>,
 }
 
 /// What stands between the braces of a function.
 #[derive(Debug, Drop)]
-pub struct Body {
-    pub locals: List<Declared>,
-    pub lines: List<Line>,
+pub struct Body<'a> {
+    pub locals: List<Declared<'a>>,
+    pub lines: List<Line<'a>>,
 }
 
 /// A declaration, or a definition with its linkage, which is not `Extern`.
 #[derive(Debug, Drop)]
-pub enum Item {
-    Struct(StructText),
+pub enum Item<'a> {
+    Struct(StructText<'a>),
     /// Without initial values.
-    ExternArray(ArrayText),
-    ExternFunction(FunctionText),
-    Array(Linkage, ArrayText),
-    Function(Linkage, FunctionText, Body),
+    ExternArray(ArrayText<'a>),
+    ExternFunction(FunctionText<'a>),
+    Array(Linkage, ArrayText<'a>),
+    Function(Linkage, FunctionText<'a>, Body<'a>),
 }
 
 /// An item and the line of its first token, from 1.
 #[derive(Debug, Drop)]
-pub struct ItemLine {
+pub struct ItemLine<'a> {
     pub line: u32,
-    pub item: Item,
+    pub item: Item<'a>,
 }

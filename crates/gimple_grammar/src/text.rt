@@ -30,7 +30,7 @@ pub enum SyntaxError {
 }
 
 #[tactic(auto, unfolding(crate::specs::Items::module_text, gimple_tokens::specs::Stops::past))]
-fn all(alloc: Global, text: &[u8]) -> Result<List<ItemLine>, SyntaxError>
+fn all<'a>(alloc: Global, text: &'a [u8]) -> Result<List<ItemLine<'a>>, SyntaxError>
     requires { length text.now < 2 ^ 32 - 1 }
     ensures exact { GivesText result (module_text.read (tokens_of text.now)) }
     ensures few { length (tokens_of text.now) ≤ length text.now + 1 }
@@ -47,7 +47,7 @@ fn all(alloc: Global, text: &[u8]) -> Result<List<ItemLine>, SyntaxError>
 }
 
 /// The items of a module's text, of at most 2^32 - 2 bytes. It is read in one pass.
-pub fn read_text(alloc: Global, text: &[u8]) -> Result<List<ItemLine>, SyntaxError>
+pub fn read_text<'a>(alloc: Global, text: &'a [u8]) -> Result<List<ItemLine<'a>>, SyntaxError>
     requires { length text.now < 2 ^ 32 - 1 }
     // What is read is spelled so.
     ensures found { IfOk result (λ items. Spells (tokens_of text.now) items) }

@@ -1,8 +1,7 @@
 -- The first component of each variable.
-use Rattle.std.proofs.Common.{◌≡◌, ◌+◌, ◌<◌, ℕ, zero, suc, List, [], ◌∷◌, ◌++◌, length, get_or, map, take, drop, min, refl, sym, ap, ◌∙◌, append_assoc, arith, length-append}
+use Rattle.std.proofs.Common.{◌≡◌, ◌+◌, ◌<◌, ℕ, zero, suc, List, [], ◌∷◌, ◌++◌, length, get_or, take, drop, min, refl, sym, ap, ◌∙◌, append_assoc, arith, length-append}
 use Rattle.std.specs.Prelude.{sum_by}
 use Rattle.std.proofs.lemmas.List.Sums.{sum_by-cons}
-use denote.Ref.{Bor}
 use Rattle.gimple_ir.specs.declared.types.ScalarType.{ScalarType}
 use Rattle.gimple_grammar.specs.declared.syntax.Declared.{Declared}
 use Rattle.gimple_grammar.specs.declared.syntax.StructText.{StructText}
@@ -11,21 +10,21 @@ use Rattle.gimple_syntax.specs.Places.{types_of}
 use Rattle.gimple_syntax.specs.Layouts.{firsts_from}
 
 -- from one variable on
-firsts-here : (structs : List StructText) (vs : List (Bor Declared)) (i : ℕ) (d : Bor Declared) (k : ℕ) → i < length vs
-    → firsts_from structs k (drop i (map (λ v. v.now) vs))
-    ≡ min k nothing ∷ firsts_from structs (k + length (types_of structs (get_or vs i d).now.ty)) (drop (i + 1) (map (λ v. v.now) vs))
+firsts-here : (structs : List StructText) (vs : List Declared) (i : ℕ) (d : Declared) (k : ℕ) → i < length vs
+    → firsts_from structs k (drop i vs)
+    ≡ min k nothing ∷ firsts_from structs (k + length (types_of structs (get_or vs i d).ty)) (drop (i + 1) vs)
 firsts-here structs [] i d k h = absurd (omega arith)
 firsts-here structs (v ∷ vs) zero d k h = refl
 firsts-here structs (v ∷ vs) (suc i) d k h =
     let e : suc i + 1 ≡ suc (i + 1) = omega arith in rw e (firsts-here structs vs i d k (omega arith))
 
-pub firsts-more : (structs : List StructText) (vs : List (Bor Declared)) (i : ℕ) (d : Bor Declared) (firsts after all : List ℕ) (types : List ScalarType) (first : ℕ)
+pub firsts-more : (structs : List StructText) (vs : List Declared) (i : ℕ) (d : Declared) (firsts after all : List ℕ) (types : List ScalarType) (first : ℕ)
     → i < length vs → first ≡ min (length types) nothing → after ≡ firsts ++ first ∷ []
-    → firsts ++ firsts_from structs (length types) (drop i (map (λ v. v.now) vs)) ≡ all
-    → after ++ firsts_from structs (length (types ++ types_of structs (get_or vs i d).now.ty)) (drop (i + 1) (map (λ v. v.now) vs)) ≡ all
+    → firsts ++ firsts_from structs (length types) (drop i vs) ≡ all
+    → after ++ firsts_from structs (length (types ++ types_of structs (get_or vs i d).ty)) (drop (i + 1) vs) ≡ all
 firsts-more structs vs i d firsts after all types first below is pushed so_far =
-    let rest = drop (i + 1) (map (λ (v : Bor Declared). v.now) vs) in
-    let more = types_of structs (get_or vs i d).now.ty in
+    let rest = drop (i + 1) vs in
+    let more = types_of structs (get_or vs i d).ty in
     ap (λ k. after ++ firsts_from structs k rest) (length-append types more)
     ∙ ap (λ xs. xs ++ firsts_from structs (length types + length more) rest) pushed
     ∙ append_assoc firsts (first ∷ []) (firsts_from structs (length types + length more) rest)

@@ -1,4 +1,5 @@
 pub mod Tables
+pub mod Variables
 pub mod FirstComponents
 pub mod Zeros
 pub mod Parts
@@ -7,4 +8,5 @@ pub mod StandIns
 pub mod Sorts
 pub mod Texts
 pub mod PassLaws
+pub mod OutlineLaws
 pub mod Outlined

@@ -19,12 +19,13 @@ use Rattle.gimple_ir.specs.Checks.{fault_of}
 use Rattle.gimple_tokens.specs.Reading.{line_of}
 use Rattle.gimple_grammar.specs.declared.text.SyntaxError.TheVariants as syntax_error
 use Rattle.gimple_grammar.specs.declared.text.SyntaxFault.{SyntaxFault}
+use Rattle.gimple_grammar.specs.Streams.{without_body}
 use Rattle.gimple_grammar.specs.Texts.{Answer, GivesText}
 use Rattle.gimple_syntax.specs.declared.text.TextFault.{TextFault}
 use Rattle.gimple_syntax.specs.declared.text.TextError.{TextError}
 use Rattle.gimple_syntax.specs.declared.text.TextError.TheVariants.{Fault, NoMemory}
 use Rattle.gimple_syntax.specs.Items.{Items, struct_in, array_in, array_text, function_head, structs_in, arrays_in, functions_in, function_heads, struct_of, array_of, arity, function_of, items_of, module_of}
-use Rattle.gimple_syntax.specs.Passes.{without_body, outline_of, outlines_of, functions_from, read_as, GivesRead, GivesChecked}
+use Rattle.gimple_syntax.specs.Passes.{outlines_of, functions_from, read_as, GivesRead, GivesChecked}
 use Rattle.gimple_syntax.specs.Reading.{checked, checked_by, check_fault, Finishes}
 use Rattle.gimple_syntax.proofs.Texts.{length-module_of, checked-again}
 use Rattle.gimple_syntax.proofs.PassLaws.{pair, first-is, rest-is}
@@ -83,15 +84,15 @@ abbrev parts_of : List StructDef → List Array → List Function → Module
 parts_of structs arrays functions = record { structs = structs; arrays = arrays; functions = functions }
 
 numbered-by : (items outlines : List ItemLine) (names : Items) (functions : List Function)
-    → outlines_of items ≡ outlines → names ≡ items_of outlines → functions_from names items ≡ functions
+    → outlines ≡ outlines_of items → names ≡ items_of outlines → functions_from names items ≡ functions
     → module_of items ≡ parts_of (map struct_of (structs_in outlines)) (map array_of (arrays_in outlines)) functions
 unfolding module_of
 numbered-by items outlines names functions is known made =
-    let all : names ≡ items_of items = known ∙ ap items_of (sym is) ∙ items-are items in
+    let all : names ≡ items_of items = known ∙ ap items_of is ∙ items-are items in
     let structs : map struct_of (structs_in items) ≡ map struct_of (structs_in outlines) =
-    ap (map struct_of) (sym (keeps struct_in keeps-struct items)) ∙ ap (λ (os : List ItemLine). map struct_of (structs_in os)) is in
+    ap (map struct_of) (sym (keeps struct_in keeps-struct items)) ∙ ap (λ (os : List ItemLine). map struct_of (structs_in os)) (sym is) in
     let arrays : map array_of (arrays_in items) ≡ map array_of (arrays_in outlines) =
-    ap (map array_of) (sym (keeps array_in keeps-array items)) ∙ ap (λ (os : List ItemLine). map array_of (arrays_in os)) is in
+    ap (map array_of) (sym (keeps array_in keeps-array items)) ∙ ap (λ (os : List ItemLine). map array_of (arrays_in os)) (sym is) in
     let fs : functions_from (items_of items) items ≡ functions = ap (λ (n : Items). functions_from n items) (sym all) ∙ made in
     ap (λ (ss : List StructDef). parts_of ss (map array_of (arrays_in items)) (functions_from (items_of items) items)) structs
     ∙ ap (λ (xs : List Array). parts_of (map struct_of (structs_in outlines)) xs (functions_from (items_of items) items)) arrays
@@ -102,13 +103,14 @@ both-are {A = A} x y ts us e f = ap (λ (z : A). pair z ts) e ∙ ap (λ (vs : L
 
 -- the module of the outlines and the functions
 pub numbered : (read : Result (List ItemLine × List Placed) Stuck) (outlines : List ItemLine) (names : Items) (functions : List Function)
-    → read_as outlines_of read ≡ Ok (outlines, []) → names ≡ items_of outlines → read_as (functions_from names) read ≡ Ok (functions, [])
+    → ((items : List ItemLine) → read ≡ Ok (items, []) → outlines ≡ outlines_of items) → names ≡ items_of outlines → read_as (functions_from names) read ≡ Ok (functions, [])
     → read_as module_of read ≡ Ok (parts_of (map struct_of (structs_in outlines)) (map array_of (arrays_in outlines)) functions, [])
 numbered (Ok x) outlines names functions o known f =
+    let none : x.1 ≡ [] = rest-is (functions_from names x.0) functions x.1 [] f in
+    let is : outlines ≡ outlines_of x.0 = o x.0 (ap (λ (ts : List Placed). pair x.0 ts) none) in
     both-are (module_of x.0) (parts_of (map struct_of (structs_in outlines)) (map array_of (arrays_in outlines)) functions) x.1 []
-    (numbered-by x.0 outlines names functions (first-is (outlines_of x.0) outlines x.1 [] o) known (first-is (functions_from names x.0) functions x.1 [] f))
-    (rest-is (outlines_of x.0) outlines x.1 [] o)
-numbered (Err s) outlines names functions o known f = absurd (cc o)
+    (numbered-by x.0 outlines names functions is known (first-is (functions_from names x.0) functions x.1 [] f)) none
+numbered (Err s) outlines names functions o known f = absurd (cc f)
 
 abbrev stopped_at : {A : Type 0} → Stuck → Result A Stuck
 stopped_at s = Err s
@@ -129,25 +131,15 @@ same-fault {B = B} f g (Fault fault) (Err s) h = (h.0, ap (stopped_at {A = B × 
 
 -- ---- the checks
 
--- there are as many items as outlines
-pub all_counted : (read : Result (List ItemLine × List Placed) Stuck) (outlines : List ItemLine) (m : Module)
-    → read_as outlines_of read ≡ Ok (outlines, []) → read_as module_of read ≡ Ok (m, [])
-    → length m.structs + length m.arrays + length m.functions ≡ length outlines
-all_counted (Ok x) outlines m o h =
-    length-module_of x.0 m (sym (first-is (module_of x.0) m x.1 [] h))
-    ∙ sym (length-map x.0 outline_of)
-    ∙ ap (λ (os : List ItemLine). length os) (first-is (outlines_of x.0) outlines x.1 [] o)
-all_counted (Err s) outlines m o h = absurd (cc o)
-
--- as few as a text of this length has
-pub few-outlines : (read : Result (List ItemLine × List Placed) Stuck) (outlines : List ItemLine)
+-- A module has as few items as its text.
+pub few-items : (read : Result (List ItemLine × List Placed) Stuck) (m : Module)
     → ((answer : Answer) → GivesText answer read → IfOk answer (λ items. length items < 2 ^ 32))
-    → read_as outlines_of read ≡ Ok (outlines, []) → length outlines < 2 ^ 32
-few-outlines (Ok x) outlines few o =
-    let count : length outlines ≡ length x.0 = ap (λ (os : List ItemLine). length os) (sym (first-is (outlines_of x.0) outlines x.1 [] o)) ∙ length-map x.0 outline_of in
-    let less : length x.0 < 2 ^ 32 = few (Ok x.0) (ap (λ (ts : List Placed). pair x.0 ts) (rest-is (outlines_of x.0) outlines x.1 [] o)) in
+    → read_as module_of read ≡ Ok (m, []) → length m.structs + length m.arrays + length m.functions < 2 ^ 32
+few-items (Ok x) m few h =
+    let count = length-module_of x.0 m (sym (first-is (module_of x.0) m x.1 [] h)) in
+    let less : length x.0 < 2 ^ 32 = few (Ok x.0) (ap (λ (ts : List Placed). pair x.0 ts) (rest-is (module_of x.0) m x.1 [] h)) in
     omega (arith, count, less)
-few-outlines (Err s) outlines few o = absurd (cc o)
+few-items (Err s) m few h = absurd (cc h)
 
 -- a module without a fault
 pub passes : (read : Result (List ItemLine × List Placed) Stuck) (m : Module) → read_as module_of read ≡ Ok (m, []) → fault_of m ≡ None

@@ -1,7 +1,7 @@
 -- Passing over the items of a text one by one.
 use Rattle.std.proofs.Common.{◌≡◌, ◌<◌, ℕ, suc, List, [], ◌∷◌, ◌++◌, length, map, Bool, true, false, Option, Some, None, Result, Ok, Err, refl, ap, sym, ◌∙◌, append_assoc, arith}
 use Rattle.std.proofs.lemmas.List.{append-nil}
-use Rattle.std.proofs.lemmas.List.Concat.{flat_map-cons, flat_map_single}
+use Rattle.std.proofs.lemmas.List.Concat.{flat_map-cons}
 use Rattle.std.specs.List.{flat_map, cons_option}
 use Rattle.std.specs.Option.{option_map, option_to_list}
 use Rattle.gimple_ir.specs.declared.types.Function.{Function}
@@ -19,7 +19,7 @@ use Rattle.gimple_syntax.specs.declared.text.TextError.{TextError}
 use Rattle.gimple_syntax.specs.declared.text.TextError.TheVariants.{Fault, NoMemory}
 use Rattle.gimple_syntax.specs.Items.{Items, LinkedFunction, function_in, functions_in, function_of}
 use Rattle.gimple_syntax.specs.Reading.{syntax_fault}
-use Rattle.gimple_syntax.specs.Passes.{outline_of, outlines_of, function_at, functions_from, read_as, Stops, GivesRead, AddsParts}
+use Rattle.gimple_syntax.specs.Passes.{function_at, functions_from, read_as, Stops, GivesRead, AddsParts}
 
 -- where the grammar stops, so does the text
 pub stopped : (fault : TextFault) (f : SyntaxFault) (read : Result (List ItemLine × List Placed) Stuck)
@@ -117,11 +117,6 @@ pub is_done : {A : Type 0} (f : ItemLine → List A) (before : Bool) (front : Li
     → before ≡ false → going f before front ts ≡ total → total ≡ Ok (front, [])
 is_done f false front ts total t so_far = sym so_far
 is_done f true front ts total t so_far = absurd cc
-
--- ---- outlines
-
-pub outlines-are : (read : Result (List ItemLine × List Placed) Stuck) → read_as (flat_map (λ i. outline_of i ∷ [])) read ≡ read_as outlines_of read
-outlines-are read = same-read (flat_map (λ i. outline_of i ∷ [])) outlines_of (flat_map_single outline_of) read
 
 -- ---- functions
 

@@ -3,14 +3,14 @@ use Rattle.std.proofs.Common.{◌≡◌, ◌+◌, ◌<◌, ℕ, List, [], ◌∷
 use Rattle.std.specs.List.{position}
 use Rattle.std.specs.Option.{option_map, option_map_or}
 use Rattle.std.specs.Str.{bytes_eq}
-use Rattle.std.specs.BTreeMap.{BTreeMap}
 use denote.Ref.{Bor}
 use Rattle.std.proofs.lemmas.List.{length-take, length-map}
 use Rattle.std.proofs.Math.Seq.{take-length}
 use Rattle.std.proofs.lemmas.Iterator.Adapters.{position_from-zero}
 use Rattle.std.specs.List.{position_from}
+use Rattle.std.proofs.lemmas.Slice.Eq.{bytes_eq-Decides}
 use Rattle.gimple_syntax.specs.Numbers.{nothing, number_of}
-use Rattle.gimple_syntax.specs.Table.{number_in, first_number, or_else, Finds}
+use Rattle.gimple_syntax.specs.Table.{Numbers, number_in, first_number, or_else, Finds}
 
 -- ---- a name that is looked up
 
@@ -24,17 +24,22 @@ no-number : (place : Option ℕ) → option_map (λ p. min p nothing) place ≡ 
 no-number None e = refl
 no-number (Some p) e = cc
 
-pub number-found : (names : List (List ℕ)) (numbers : BTreeMap (Bor (List ℕ)) ℕ) (q : List ℕ) (n : ℕ) → Finds names numbers
+pub number-found : (names : List (List ℕ)) (numbers : Numbers) (q : List ℕ) (n : ℕ) → Finds names numbers
     → number_in numbers q ≡ Some n → n ≡ number_of names q
 unfolding Finds number_of
 number-found names numbers q n finds e = found-number (position (bytes_eq q) names) n (sym (finds q) ∙ e)
 
-pub number-absent : (names : List (List ℕ)) (numbers : BTreeMap (Bor (List ℕ)) ℕ) (q : List ℕ) → Finds names numbers
+pub number-absent : (names : List (List ℕ)) (numbers : Numbers) (q : List ℕ) → Finds names numbers
     → number_in numbers q ≡ None → nothing ≡ number_of names q
 unfolding Finds number_of
 number-absent names numbers q finds e = no-number (position (bytes_eq q) names) (sym (finds q) ∙ e)
 
 -- ---- one name more
+
+-- a name that the map has not gets a number
+pub number-added : (before : List ℕ → Option ℕ) (name q : List ℕ) (n : ℕ) → before name ≡ None
+    → cond (bytes_eq name q) (Some n) (before q) ≡ or_else (before q) (cond (bytes_eq q name) (Some n) None)
+number-added before name q n none = grind (arith, bytes_eq-Decides q name, bytes_eq-Decides name q, none)
 
 push-cases : (b : Bool) (t : List ℕ → Bool) (i : ℕ) (ys : List (List ℕ)) (x : List ℕ)
     → position_from t (i + 1) (ys ++ x ∷ []) ≡ or_else (position_from t (i + 1) ys) (cond (t x) (Some (i + 1 + length ys)) None)

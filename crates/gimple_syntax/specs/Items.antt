@@ -20,6 +20,7 @@ use Rattle.gimple_grammar.specs.declared.syntax.Body.{Body}
 use Rattle.gimple_grammar.specs.declared.syntax.Item.{Item}
 use Rattle.gimple_grammar.specs.declared.syntax.Item.TheVariants as item
 use Rattle.gimple_grammar.specs.declared.syntax.ItemLine.{ItemLine}
+use Rattle.gimple_grammar.specs.Streams.{no_body}
 use Rattle.gimple_syntax.specs.Numbers.{nothing, element_of, shortened}
 use Rattle.gimple_syntax.specs.Places.{Names, variable_of}
 use Rattle.gimple_syntax.specs.Statements.{label_names, statements_from}
@@ -45,9 +46,6 @@ pub record LinkedFunction : Type 0 where
   pub linkage : Linkage
   pub head : FunctionText
   pub body : Body
-
-abbrev pub no_body : Body
-no_body = record { locals = []; lines = [] }
 
 abbrev pub function_in : Item → Option LinkedFunction
 function_in (item.ExternFunction f) = Some (record { linkage = Extern; head = f; body = no_body })

@@ -6,29 +6,16 @@ use Rattle.gimple_ir.specs.declared.types.Module.{Module}
 use Rattle.gimple_tokens.specs.Tokens.{Placed, tokens_of}
 use Rattle.gimple_tokens.specs.Reading.{first_of, line_of}
 use Rattle.gimple_tokens.specs.Stops.{Stuck}
-use Rattle.gimple_grammar.specs.declared.syntax.Item.{Item}
-use Rattle.gimple_grammar.specs.declared.syntax.Item.TheVariants as item
 use Rattle.gimple_grammar.specs.declared.syntax.ItemLine.{ItemLine}
 use Rattle.gimple_grammar.specs.Items.{module_text}
-use Rattle.gimple_grammar.specs.Streams.{with_item}
+use Rattle.gimple_grammar.specs.Streams.{with_item, outline_of}
 use Rattle.gimple_syntax.specs.declared.text.TextFault.{TextFault}
 use Rattle.gimple_syntax.specs.declared.text.TextError.{TextError}
 use Rattle.gimple_syntax.specs.declared.text.TextError.TheVariants.{Fault, NoMemory}
-use Rattle.gimple_syntax.specs.Items.{Items, no_body, function_in, functions_in, function_of}
+use Rattle.gimple_syntax.specs.Items.{Items, function_in, functions_in, function_of}
 use Rattle.gimple_syntax.specs.Reading.{syntax_fault, checked}
 
--- ---- items without bodies
-
-abbrev pub without_body : Item → Item
-without_body (item.Struct s) = item.Struct s
-without_body (item.ExternArray a) = item.ExternArray a
-without_body (item.ExternFunction f) = item.ExternFunction f
-without_body (item.Array linkage a) = item.Array linkage a
-without_body (item.Function linkage f body) = item.Function linkage f no_body
-
-abbrev pub outline_of : ItemLine → ItemLine
-outline_of i = record { line = i.line; item = without_body i.item }
-
+-- the items without the bodies of functions
 abbrev pub outlines_of : List ItemLine → List ItemLine
 outlines_of items = map outline_of items
 
@@ -67,6 +54,26 @@ AddsParts f (Ok true) old new before after =
 AddsParts f (Ok false) old new before after = (module_text.read before ≡ Ok ([], [])) × (new ≡ old)
 AddsParts f (Err NoMemory) old new before after = Unit {0}
 AddsParts f (Err (Fault fault)) old new before after = Stops fault (module_text.read before)
+
+-- ---- the outlines of a text
+
+-- the outlines of its items, if it is a text of items
+abbrev pub Outlined : List ℕ → List ItemLine → Type 0
+Outlined text found = (items : List ItemLine) → items_read text ≡ Ok (items, []) → found ≡ outlines_of items
+
+-- The outline of the first of these items is added, if one is left, and the others are still to be read.
+abbrev pub IsAdded : {E : Type 0} → Result Bool E → List ItemLine → List ItemLine → List ItemLine → List Placed → List Placed → List Placed → Type 0
+IsAdded (Ok true) items old new rest before after =
+    (i : ItemLine) × (more : List ItemLine) × (items ≡ i ∷ more) × (new ≡ old ++ outline_of i ∷ []) × (module_text.read after ≡ Ok (more, rest)) × (length after < length before)
+IsAdded (Ok false) items old new rest before after = (items ≡ []) × (new ≡ old)
+IsAdded (Err e) items old new rest before after = Unit {0}
+
+-- What a call does to the outlines so far, if the tokens before it are those of items. Whether one was left is told.
+abbrev pub AddsOutline : {E : Type 0} → Result Bool E → List ItemLine → List ItemLine → List Placed → List Placed → Type 0
+AddsOutline result old new before after =
+    (items : List ItemLine) (rest : List Placed) → module_text.read before ≡ Ok (items, rest) → IsAdded result items old new rest before after
+
+-- ---- what is checked
 
 -- what a call answers that reads and checks the whole text
 abbrev pub GivesChecked : Result Module TextError → Result (List ItemLine × List Placed) Stuck → Type 0

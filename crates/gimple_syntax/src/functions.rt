@@ -6,6 +6,7 @@ ghost use Rattle.gimple_syntax.specs.Statements.{label_name, label_names, labels
 ghost use Rattle.gimple_syntax.specs.Items.{parameters_of, function_of};
 
 use crate::items::{Items, arity, parameters_of};
+use crate::lent::Lent;
 use crate::scope::Scope;
 use crate::statements::statement_of;
 use gimple_grammar::{Declared, Form, FunctionText, Line, Tail, Type};
@@ -15,21 +16,24 @@ use gimple_ir::{
 use gimple_tokens::Identifier;
 use std::alloc::Global;
 
-fn add_all<'a>(into: &mut Vec<&'a Declared>, more: &'a [Declared]) -> Result<(), NoMemory>
-    ensures { OnOk result (map (λ d. d.now) into.new.items ≡ map (λ d. d.now) into.old.items ++ more.now) }
+fn add_all<'b, 't>(
+    into: &mut Vec<Lent<'b, Declared<'t>>>,
+    more: &'b [Declared<'t>],
+) -> Result<(), NoMemory>
+    ensures { OnOk result (into.new.items ≡ into.old.items ++ more.now) }
 {
     for declared in more {
-        into.push(declared)?;
+        into.push(Lent::new(declared))?;
     }
     Ok(())
 }
 
-fn all_variables<'a>(
+fn all_variables<'b, 't>(
     alloc: Global,
-    parameters: &'a [Declared],
-    locals: &'a [Declared],
-) -> Result<Vec<&'a Declared>, NoMemory>
-    ensures { IfOk result (λ all. map (λ d. d.now) all.items ≡ parameters.now ++ locals.now) }
+    parameters: &'b [Declared<'t>],
+    locals: &'b [Declared<'t>],
+) -> Result<Vec<Lent<'b, Declared<'t>>>, NoMemory>
+    ensures { IfOk result (λ all. all.items ≡ parameters.now ++ locals.now) }
 {
     let mut all = Vec::new(alloc);
     add_all(&mut all, parameters)?;
@@ -37,7 +41,7 @@ fn all_variables<'a>(
     Ok(all)
 }
 
-fn var_type(items: &Items<'_>, ty: &Type) -> VarType
+fn var_type(items: &Items<'_, '_>, ty: &Type) -> VarType
     ensures { result ≡ var_type items.now.structs ty.now }
 {
     match ty {
@@ -46,10 +50,14 @@ fn var_type(items: &Items<'_>, ty: &Type) -> VarType
     }
 }
 
-fn variable_of(alloc: Global, items: &Items<'_>, declared: &Declared) -> Result<Variable, NoMemory>
+fn variable_of(
+    alloc: Global,
+    items: &Items<'_, '_>,
+    declared: &Declared,
+) -> Result<Variable, NoMemory>
     ensures { IfOk result (λ v. v ≡ variable_of items.now.structs declared.now) }
 {
-    let name = declared.name.copy()?;
+    let name = declared.name.copy(alloc)?;
     let mut types = Vec::new(alloc);
     items.add_types(&mut types, &declared.ty)?;
     Ok(Variable {
@@ -61,19 +69,19 @@ fn variable_of(alloc: Global, items: &Items<'_>, declared: &Declared) -> Result<
 
 fn variables_of(
     alloc: Global,
-    items: &Items<'_>,
-    all: &[&Declared],
+    items: &Items<'_, '_>,
+    all: &[Lent<'_, Declared<'_>>],
 ) -> Result<List<Variable>, NoMemory>
-    ensures { IfOk result (λ found. found ≡ map (variable_of items.now.structs) (map (λ d. d.now) all.now)) }
+    ensures { IfOk result (λ found. found ≡ map (variable_of items.now.structs) all.now) }
 {
     let mut found = List::new(alloc);
     for declared in all {
-        found.push(variable_of(alloc, items, *declared)?)?;
+        found.push(variable_of(alloc, items, declared.get())?)?;
     }
     Ok(found)
 }
 
-fn label_name(form: &Form) -> Option<&Identifier>
+fn label_name<'b, 't>(form: &'b Form<'t>) -> Option<&'b Identifier<'t>>
     ensures { option_copied result ≡ label_name form.now }
 {
     match form {
@@ -82,13 +90,13 @@ fn label_name(form: &Form) -> Option<&Identifier>
     }
 }
 
-fn label_names<'a>(alloc: Global, lines: &'a [Line]) -> Result<Vec<&'a str>, NoMemory>
+fn label_names<'t>(alloc: Global, lines: &[Line<'t>]) -> Result<Vec<&'t [u8]>, NoMemory>
     ensures { IfOk result (λ found. map (λ name. name.now) found.items ≡ label_names lines.now) }
 {
     let mut found = Vec::new(alloc);
     for line in lines {
         if let Some(name) = label_name(&line.form) {
-            found.push(name.as_str())?;
+            found.push(name.as_slice())?;
         }
     }
     Ok(found)
@@ -100,7 +108,7 @@ fn labels_of(alloc: Global, lines: &[Line]) -> Result<List<Name>, NoMemory>
     let mut found = List::new(alloc);
     for line in lines {
         if let Some(name) = label_name(&line.form) {
-            found.push(name.copy()?)?;
+            found.push(name.copy(alloc)?)?;
         }
     }
     Ok(found)
@@ -119,7 +127,7 @@ fn labels_in(form: &Form) -> usize
 
 fn statements_of(
     alloc: Global,
-    scope: &Scope<'_, '_, '_>,
+    scope: &Scope<'_, '_, '_, '_>,
     returned: ResultType,
     lines: &[Line],
 ) -> Result<List<Statement>, NoMemory>
@@ -136,13 +144,13 @@ fn statements_of(
 
 /// The function with this head and body. No variable has more than 8 components, so it is linear in the text's size.
 #[tactic(auto, unfolding(crate::specs::Items::function_of))]
-pub fn function_of<'b>(
+pub fn function_of<'b, 't>(
     alloc: Global,
-    items: &Items<'_>,
+    items: &Items<'_, 't>,
     linkage: Linkage,
-    head: &'b FunctionText,
-    locals: &'b [Declared],
-    lines: &'b [Line],
+    head: &'b FunctionText<'t>,
+    locals: &'b [Declared<'t>],
+    lines: &'b [Line<'t>],
 ) -> Result<Function, NoMemory>
     ensures { IfOk result (λ f. f ≡ function_of items.now (record { linkage = linkage; head = head.now; body = record { locals = locals.now; lines = lines.now } })) }
 {
@@ -151,7 +159,7 @@ pub fn function_of<'b>(
     let scope = Scope::new(alloc, items, all, label_names(alloc, lines)?)?;
     let body = statements_of(alloc, &scope, head.result, lines)?;
     Ok(Function {
-        name: head.name.copy()?,
+        name: head.name.copy(alloc)?,
         linkage,
         result: head.result,
         parameters: arity(head),

@@ -6,6 +6,7 @@ ghost use Rattle.gimple_syntax.specs.Numbers.{at_number, item_number};
 ghost use Rattle.gimple_syntax.specs.Places.{struct_number, usable, struct_named, types_of};
 ghost use Rattle.gimple_syntax.specs.Items.{parameters_of, arity, items_of};
 
+use crate::lent::Lent;
 use crate::table::{NameTable, capped};
 use gimple_grammar::{
     ArrayText, Declared, FieldText, FunctionText, Item, ItemLine, Parameters, StructText, Type,
@@ -16,83 +17,89 @@ use std::alloc::Global;
 use std::marker::Model;
 
 /// What has a name.
-pub trait HasName {
+pub trait HasName<'t> {
     ghost use Rattle.std.specs.Prelude.{List, ℕ};
 
     ghost name_of: { Self → List ℕ };
 
-    fn name(&self) -> &Identifier
+    fn name(&self) -> &'t [u8]
         ensures { result.now ≡ name_of self.now };
 }
 
-impl HasName for Declared {
+impl<'t> HasName<'t> for Declared<'t> {
     ghost name_of = { λ declared. declared.name };
 
-    fn name(&self) -> &Identifier {
-        &self.name
+    fn name(&self) -> &'t [u8] {
+        self.name.as_slice()
     }
 }
 
-impl HasName for StructText {
+impl<'t> HasName<'t> for StructText<'t> {
     ghost name_of = { λ text. text.name };
 
-    fn name(&self) -> &Identifier {
-        &self.name
+    fn name(&self) -> &'t [u8] {
+        self.name.as_slice()
     }
 }
 
-impl HasName for ArrayText {
+impl<'t> HasName<'t> for ArrayText<'t> {
     ghost name_of = { λ text. text.name };
 
-    fn name(&self) -> &Identifier {
-        &self.name
+    fn name(&self) -> &'t [u8] {
+        self.name.as_slice()
     }
 }
 
-impl HasName for FunctionText {
+impl<'t> HasName<'t> for FunctionText<'t> {
     ghost name_of = { λ text. text.name };
 
-    fn name(&self) -> &Identifier {
-        &self.name
+    fn name(&self) -> &'t [u8] {
+        self.name.as_slice()
     }
 }
 
 /// The names of what is referred to, in order.
-pub fn names_of<'a, T: HasName>(alloc: Global, items: &[&'a T]) -> Result<Vec<&'a str>, NoMemory>
-    ensures { IfOk result (λ names. map (λ name. name.now) names.items ≡ map T.name_of (map (λ item. item.now) items.now)) }
+pub fn names_of<'t, T: HasName<'t>>(
+    alloc: Global,
+    items: &[Lent<'_, T>],
+) -> Result<Vec<&'t [u8]>, NoMemory>
+    ensures { IfOk result (λ names. map (λ name. name.now) names.items ≡ map T.name_of items.now) }
 {
     let mut names = Vec::new(alloc);
     for item in items {
-        names.push((*item).name().as_str())?;
+        names.push(item.get().name())?;
     }
     Ok(names)
 }
 
 /// The numbers of their names.
-pub fn table_of<'a, T: HasName>(alloc: Global, items: &[&'a T]) -> Result<NameTable<'a>, NoMemory>
-    ensures { IfOk result (λ table. table ≡ map T.name_of (map (λ item. item.now) items.now)) }
+pub fn table_of<'t, T: HasName<'t>>(
+    alloc: Global,
+    items: &[Lent<'_, T>],
+) -> Result<NameTable<'t>, NoMemory>
+    ensures { IfOk result (λ table. table ≡ map T.name_of items.now) }
 {
     let names = names_of(alloc, items)?;
     NameTable::new(alloc, names)
 }
 
 /// The head of an item of one sort.
-pub trait Sort {
+pub trait Sort<'t> {
     ghost use Rattle.std.specs.Prelude.{Option};
     ghost use Rattle.gimple_grammar.specs.declared.syntax.Item.{Item};
 
     ghost head_of: { Item → Option Self };
 
-    fn head(item: &Item) -> Option<&Self>
+    fn head<'b>(item: &'b Item<'t>) -> Option<&'b Self>
         ensures { option_copied result ≡ head_of item.now };
 }
 
-impl Sort for StructText {
+impl<'t> Sort<'t> for StructText<'t> {
     ghost use Rattle.gimple_syntax.specs.Items.{struct_in};
 
     ghost head_of = { struct_in };
 
-    fn head(item: &Item) -> Option<&StructText> {
+    fn head<'b>(item: &'b Item<'t>) -> Option<&'b StructText<'t>> {
         match item {
             Item::Struct(text) => Some(text),
             _ => None,
@@ -100,12 +107,12 @@ impl Sort for StructText {
     }
 }
 
-impl Sort for ArrayText {
+impl<'t> Sort<'t> for ArrayText<'t> {
     ghost use Rattle.gimple_syntax.specs.Items.{array_text};
 
     ghost head_of = { array_text };
 
-    fn head(item: &Item) -> Option<&ArrayText> {
+    fn head<'b>(item: &'b Item<'t>) -> Option<&'b ArrayText<'t>> {
         match item {
             Item::ExternArray(text) => Some(text),
             Item::Array(_, text) => Some(text),
@@ -114,12 +121,12 @@ impl Sort for ArrayText {
     }
 }
 
-impl Sort for FunctionText {
+impl<'t> Sort<'t> for FunctionText<'t> {
     ghost use Rattle.gimple_syntax.specs.Items.{function_head};
 
     ghost head_of = { function_head };
 
-    fn head(item: &Item) -> Option<&FunctionText> {
+    fn head<'b>(item: &'b Item<'t>) -> Option<&'b FunctionText<'t>> {
         match item {
             Item::ExternFunction(text) => Some(text),
             Item::Function(_, text, _) => Some(text),
@@ -128,20 +135,23 @@ impl Sort for FunctionText {
     }
 }
 
-fn heads<'a, T: Sort>(alloc: Global, items: &'a [ItemLine]) -> Result<Vec<&'a T>, NoMemory>
-    ensures { IfOk result (λ found. map (λ head. head.now) found.items ≡ filter_map (λ item. T.head_of item.item) items.now) }
+fn heads<'b, 't, T: Sort<'t>>(
+    alloc: Global,
+    items: &'b [ItemLine<'t>],
+) -> Result<Vec<Lent<'b, T>>, NoMemory>
+    ensures { IfOk result (λ found. found.items ≡ filter_map (λ item. T.head_of item.item) items.now) }
 {
     let mut found = Vec::new(alloc);
     for item in items {
         if let Some(head) = T::head(&item.item) {
-            found.push(head)?;
+            found.push(Lent::new(head))?;
         }
     }
     Ok(found)
 }
 
 /// The parameters, of which there may be none.
-pub fn parameters_of(parameters: &Parameters) -> &[Declared]
+pub fn parameters_of<'b, 't>(parameters: &'b Parameters<'t>) -> &'b [Declared<'t>]
     ensures { result.now ≡ parameters_of parameters.now }
 {
     match parameters {
@@ -157,40 +167,40 @@ pub fn arity(head: &FunctionText) -> u32
     capped(parameters_of(&head.parameters).len())
 }
 
-fn arities(alloc: Global, heads: &[&FunctionText]) -> Result<Vec<u32>, NoMemory>
-    ensures { IfOk result (λ arities. arities.items ≡ map arity (map (λ head. head.now) heads.now)) }
+fn arities(alloc: Global, heads: &[Lent<'_, FunctionText<'_>>]) -> Result<Vec<u32>, NoMemory>
+    ensures { IfOk result (λ arities. arities.items ≡ map arity heads.now) }
 {
     let mut arities = Vec::new(alloc);
     for head in heads {
-        arities.push(arity(*head))?;
+        arities.push(arity(head.get()))?;
     }
     Ok(arities)
 }
 
 /// The names of a module's items.
 #[derive(Drop)]
-pub struct Items<'a> {
-    structs: Vec<&'a StructText>,
-    struct_numbers: NameTable<'a>,
-    arrays: NameTable<'a>,
-    functions: NameTable<'a>,
+pub struct Items<'b, 't> {
+    structs: Vec<Lent<'b, StructText<'t>>>,
+    struct_numbers: NameTable<'t>,
+    arrays: NameTable<'t>,
+    functions: NameTable<'t>,
     arities: Vec<u32>,
 }
 
-impl<'a> Model for Items<'a> {
+impl<'b, 't> Model for Items<'b, 't> {
     ghost use Rattle.std.specs.Prelude.{◌≡◌, map};
     ghost use Rattle.gimple_syntax.specs.Items.{Items as Known};
 
     ghost Value = { Known };
 
-    ghost view = { λ items. record { structs = map (λ text. text.now) items.structs.items; arrays = items.arrays; functions = items.functions; arities = items.arities.items } };
+    ghost view = { λ items. record { structs = items.structs.items; arrays = items.arrays; functions = items.functions; arities = items.arities.items } };
 
-    ghost invariant = { λ items. items.struct_numbers ≡ map (λ text. text.name) (map (λ text. text.now) items.structs.items) };
+    ghost invariant = { λ items. items.struct_numbers ≡ map (λ text. text.name) items.structs.items };
 }
 
-impl<'a> Items<'a> {
+impl<'b, 't> Items<'b, 't> {
     /// The items by sort, each sort in the order of the text.
-    pub fn new(alloc: Global, items: &'a [ItemLine]) -> Result<Items<'a>, NoMemory>
+    pub fn new(alloc: Global, items: &'b [ItemLine<'t>]) -> Result<Items<'b, 't>, NoMemory>
         ensures { IfOk result (λ found. found ≡ items_of items.now) }
     {
         let structs = heads::<StructText>(alloc, items)?;
@@ -213,11 +223,11 @@ impl<'a> Items<'a> {
     pub fn struct_number(&self, tag: &Identifier) -> u32
         ensures { result ≡ struct_number self.now.structs tag.now }
     {
-        self.struct_numbers.number(tag.as_str())
+        self.struct_numbers.number(tag.as_slice())
     }
 
     /// The struct of this tag, if it has at most 8 fields.
-    pub fn struct_named(&self, tag: &Identifier) -> Option<&StructText>
+    pub fn struct_named(&self, tag: &Identifier) -> Option<&'b StructText<'t>>
         ensures { option_copied result ≡ struct_named self.now.structs tag.now }
     {
         let number = self.struct_number(tag);
@@ -225,7 +235,7 @@ impl<'a> Items<'a> {
             return None;
         }
         match self.structs.get(number as usize) {
-            Some(text) => usable(*text),
+            Some(text) => usable(text.get()),
             None => None,
         }
     }
@@ -271,7 +281,7 @@ impl<'a> Items<'a> {
     }
 }
 
-fn usable(text: &StructText) -> Option<&StructText>
+fn usable<'b, 't>(text: &'b StructText<'t>) -> Option<&'b StructText<'t>>
     ensures { option_copied result ≡ usable (Some text.now) }
 {
     if text.fields.len() <= 8 {
@@ -287,7 +297,7 @@ fn item_number(table: &NameTable<'_>, name: &Identifier) -> u32
     if name.as_slice().starts_with(b"__builtin_") {
         0xffff_ffff
     } else {
-        table.number(name.as_str())
+        table.number(name.as_slice())
     }
 }
 

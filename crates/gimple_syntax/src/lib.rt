@@ -9,6 +9,7 @@
 mod functions;
 mod items;
 mod laws;
+mod lent;
 mod lines;
 mod literals;
 mod modules;

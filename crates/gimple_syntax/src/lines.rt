@@ -37,13 +37,13 @@ fn is_of(sort: Sort, item: &Item) -> bool
 }
 
 /// An item, or how many more there are to pass over.
-enum Found<'a> {
-    Item(&'a ItemLine),
+enum Found<'b, 't> {
+    Item(&'b ItemLine<'t>),
     After(usize),
 }
 
 /// The item of a place among those of its sort.
-fn place(items: &[ItemLine], sort: Sort, number: usize) -> Found<'_>
+fn place<'b, 't>(items: &'b [ItemLine<'t>], sort: Sort, number: usize) -> Found<'b, 't>
     ensures { HasPlace result (items_of_sort sort items.now) number }
 {
     let mut left = number;
@@ -59,7 +59,7 @@ fn place(items: &[ItemLine], sort: Sort, number: usize) -> Found<'_>
 }
 
 /// The item of a number, by the order of the checks.
-fn item_of(items: &[ItemLine], number: usize) -> Option<&ItemLine>
+fn item_of<'b, 't>(items: &'b [ItemLine<'t>], number: usize) -> Option<&'b ItemLine<'t>>
     ensures { option_now result ≡ slice_get (in_order items.now) number }
 {
     match place(items, Sort::Structs, number) {
@@ -68,7 +68,7 @@ fn item_of(items: &[ItemLine], number: usize) -> Option<&ItemLine>
     }
 }
 
-fn array_or_function(items: &[ItemLine], number: usize) -> Option<&ItemLine>
+fn array_or_function<'b, 't>(items: &'b [ItemLine<'t>], number: usize) -> Option<&'b ItemLine<'t>>
     ensures { option_now result ≡ slice_get (items_of_sort Arrays items.now ++ items_of_sort Functions items.now) number }
 {
     match place(items, Sort::Arrays, number) {
@@ -77,7 +77,7 @@ fn array_or_function(items: &[ItemLine], number: usize) -> Option<&ItemLine>
     }
 }
 
-fn function(items: &[ItemLine], number: usize) -> Option<&ItemLine>
+fn function<'b, 't>(items: &'b [ItemLine<'t>], number: usize) -> Option<&'b ItemLine<'t>>
     ensures { option_now result ≡ slice_get (items_of_sort Functions items.now) number }
 {
     match place(items, Sort::Functions, number) {

@@ -1,14 +1,18 @@
 //! The module that the items of a text make.
-ghost use Rattle.std.specs.Prelude.{◌≡◌, ◌<◌, ◌-◌, ◌^◌, ◌++◌, [], Ok, IfOk, OnOk, length, map};
+ghost use Rattle.std.specs.Prelude.{◌≡◌, ◌<◌, ◌-◌, ◌^◌, ◌++◌, IfOk, OnOk, length, map};
 ghost use Rattle.std.specs.Option.{option_map, option_to_list};
+ghost use Rattle.gimple_ir.specs.declared.types.Linkage.TheVariants.{Extern};
+ghost use Rattle.gimple_grammar.specs.Streams.{no_body};
 ghost use Rattle.gimple_syntax.specs.Items.{field_of, struct_of, array_of, struct_in, array_in, function_in, structs_in, arrays_in, function_of, module_of};
-ghost use Rattle.gimple_syntax.specs.Passes.{outlines_of, function_at, functions_from, items_read, read_as, GivesRead, AddsParts};
+ghost use Rattle.gimple_syntax.specs.Passes.{function_at, functions_from, items_read, read_as, GivesRead, AddsParts, Outlined};
 
 use crate::functions::function_of;
 use crate::items::Items;
 use crate::literals::initial_of;
 use crate::text::{TextError, syntax_fault};
-use gimple_grammar::{ArrayText, FieldText, Item, ItemLine, StructText, SyntaxError, next_item};
+use gimple_grammar::{
+    ArrayText, Body, FieldText, FunctionText, Item, ItemLine, StructText, SyntaxError, next_item,
+};
 use gimple_ir::{Array, Field, Function, Linkage, List, Module, NoMemory, StructDef};
 use gimple_tokens::Reader;
 use std::alloc::Global;
@@ -19,7 +23,7 @@ fn fields_of(alloc: Global, fields: &[FieldText]) -> Result<List<Field>, NoMemor
     let mut found = List::new(alloc);
     for field in fields {
         found.push(Field {
-            name: field.name.copy()?,
+            name: field.name.copy(alloc)?,
             ty: field.ty,
         })?;
     }
@@ -31,7 +35,7 @@ fn struct_of(alloc: Global, text: &StructText) -> Result<StructDef, NoMemory>
 {
     let fields = fields_of(alloc, text.fields.as_slice())?;
     Ok(StructDef {
-        name: text.name.copy()?,
+        name: text.name.copy(alloc)?,
         fields,
     })
 }
@@ -50,7 +54,7 @@ fn array_of(alloc: Global, linkage: Linkage, text: &ArrayText) -> Result<Array, 
 {
     let initial = initial_of(alloc, text.element, text.initial.as_slice())?;
     Ok(Array {
-        name: text.name.copy()?,
+        name: text.name.copy(alloc)?,
         linkage,
         element: text.element,
         length: text.length,
@@ -68,21 +72,45 @@ fn array_in(alloc: Global, item: &Item) -> Result<Option<Array>, NoMemory>
     }
 }
 
-fn function_in<'b>(
+fn defined_function<'t>(
     alloc: Global,
-    items: &Items<'_>,
-    item: &'b Item,
+    items: &Items<'_, 't>,
+    linkage: Linkage,
+    head: &FunctionText<'t>,
+    body: &Body<'t>,
+) -> Result<Function, NoMemory>
+    ensures { IfOk result (λ f. f ≡ function_of items.now (record { linkage = linkage; head = head.now; body = body.now })) }
+{
+    let locals = body.locals.as_slice();
+    let lines = body.lines.as_slice();
+    function_of(alloc, items, linkage, head, locals, lines)
+}
+
+fn declared_function<'t>(
+    alloc: Global,
+    items: &Items<'_, 't>,
+    head: &FunctionText<'t>,
+) -> Result<Function, NoMemory>
+    ensures { IfOk result (λ f. f ≡ function_of items.now (record { linkage = Extern; head = head.now; body = no_body })) }
+{
+    let body = Body {
+        locals: List::new(alloc),
+        lines: List::new(alloc),
+    };
+    defined_function(alloc, items, Linkage::Extern, head, &body)
+}
+
+fn function_in<'t>(
+    alloc: Global,
+    items: &Items<'_, 't>,
+    item: &Item<'t>,
 ) -> Result<Option<Function>, NoMemory>
     ensures { IfOk result (λ found. found ≡ option_map (function_of items.now) (function_in item.now)) }
 {
     match item {
-        Item::ExternFunction(head) => {
-            Ok(Some(function_of(alloc, items, Linkage::Extern, head, &[], &[])?))
-        }
+        Item::ExternFunction(head) => Ok(Some(declared_function(alloc, items, head)?)),
         Item::Function(linkage, head, body) => {
-            let locals = body.locals.as_slice();
-            let lines = body.lines.as_slice();
-            Ok(Some(function_of(alloc, items, *linkage, head, locals, lines)?))
+            Ok(Some(defined_function(alloc, items, *linkage, head, body)?))
         }
         _ => Ok(None),
     }
@@ -113,10 +141,10 @@ fn arrays_of(alloc: Global, items: &[ItemLine]) -> Result<List<Array>, NoMemory>
 }
 
 /// Adds the function of an item, if it is one.
-fn push_function(
+fn push_function<'t>(
     alloc: Global,
-    names: &Items<'_>,
-    item: &Item,
+    names: &Items<'_, 't>,
+    item: &Item<'t>,
     found: &mut List<Function>,
 ) -> Result<(), NoMemory>
     ensures { OnOk result (found.new ≡ found.old ++ option_to_list (option_map (function_of names.now) (function_in item.now))) }
@@ -128,10 +156,10 @@ fn push_function(
 }
 
 /// Reads the next item, and adds its function if it is one. Whether an item was left is told.
-fn add_function(
+fn add_function<'t>(
     alloc: Global,
-    names: &Items<'_>,
-    reader: &mut Reader<'_>,
+    names: &Items<'_, 't>,
+    reader: &mut Reader<'t>,
     found: &mut List<Function>,
 ) -> Result<bool, TextError>
     ensures { AddsParts (function_at names.now) result found.old found.new reader.old reader.new }
@@ -148,7 +176,11 @@ fn add_function(
 }
 
 /// The functions of a text. No more than one item stands in memory at once.
-fn functions_of(alloc: Global, names: &Items<'_>, text: &[u8]) -> Result<List<Function>, TextError>
+fn functions_of<'t>(
+    alloc: Global,
+    names: &Items<'_, 't>,
+    text: &'t [u8],
+) -> Result<List<Function>, TextError>
     requires { length text.now < 2 ^ 32 - 1 }
     ensures { GivesRead result (read_as (functions_from names.now) (items_read text.now)) }
 {
@@ -162,10 +194,14 @@ fn functions_of(alloc: Global, names: &Items<'_>, text: &[u8]) -> Result<List<Fu
 }
 
 /// The module of a text with these outlines, with a number in place of each name; one that names nothing has 2^32 - 1. The
-/// time is linear in the text, but for lookups by name, which take the logarithm of the number of names.
-pub fn module_of(alloc: Global, text: &[u8], outlines: &[ItemLine]) -> Result<Module, TextError>
+/// time is linear in the text.
+pub fn module_of<'t>(
+    alloc: Global,
+    text: &'t [u8],
+    outlines: &[ItemLine<'t>],
+) -> Result<Module, TextError>
     requires short { length text.now < 2 ^ 32 - 1 }
-    requires outlined { read_as outlines_of (items_read text.now) ≡ Ok (outlines.now, []) }
+    requires outlined { Outlined text.now outlines.now }
     ensures { GivesRead result (read_as module_of (items_read text.now)) }
 {
     let names = Items::new(alloc, outlines)?;

@@ -1,8 +1,9 @@
 //! Reads a whole text: `specs/Reading.antt`.
-ghost use Rattle.std.specs.Prelude.{◌≡◌, ◌-◌, ◌<◌, ◌^◌, [], Ok, length, IfOk};
+ghost use Rattle.std.specs.Prelude.{◌≡◌, ◌+◌, ◌-◌, ◌<◌, ◌≤◌, ◌^◌, [], Ok, length, IfOk};
 ghost use Rattle.gimple_ir.specs.declared.types.Module.{Module as AModule};
+ghost use Rattle.gimple_tokens.specs.Tokens.{tokens_of};
 ghost use Rattle.gimple_syntax.specs.Items.{module_of};
-ghost use Rattle.gimple_syntax.specs.Passes.{outlines_of, items_read, read_as, GivesChecked};
+ghost use Rattle.gimple_syntax.specs.Passes.{items_read, read_as, GivesChecked, Outlined};
 ghost use Rattle.gimple_syntax.specs.Reading.{read_of, check_fault, SpellsModule, HasFault, GivesModule, IsModuleOrMemory, IfFault};
 
 use crate::lines::check_fault;
@@ -33,12 +34,17 @@ fn fault_in(
 }
 
 /// The module of the text with these outlines, if the checks find nothing in it.
-fn checked(alloc: Global, text: &[u8], outlines: &[ItemLine]) -> Result<Module, TextError>
+fn checked<'t>(
+    alloc: Global,
+    text: &'t [u8],
+    outlines: &[ItemLine<'t>],
+) -> Result<Module, TextError>
     requires short { length text.now < 2 ^ 32 - 1 }
-    requires outlined { read_as outlines_of (items_read text.now) ≡ Ok (outlines.now, []) }
-    requires few { length outlines.now < 2 ^ 32 }
+    requires outlined { Outlined text.now outlines.now }
+    requires few { length (tokens_of text.now) ≤ length text.now + 1 }
     ensures { GivesChecked result (items_read text.now) }
 {
+    reading_laws(text);
     let found = module_of(alloc, text, outlines)?;
     match check_module(alloc, &found) {
         Ok(()) => Ok(found),
@@ -53,7 +59,6 @@ fn read_and_checked(alloc: Global, text: &[u8]) -> Result<Module, TextError>
     requires { length text.now < 2 ^ 32 - 1 }
     ensures { GivesChecked result (items_read text.now) }
 {
-    reading_laws(text);
     let outlines = outlines_of(alloc, text)?;
     checked(alloc, text, outlines.as_slice())
 }
@@ -62,8 +67,8 @@ fn read_and_checked(alloc: Global, text: &[u8]) -> Result<Module, TextError>
 /// the checks. A line is 1 plus the count of newlines before the byte, the token, the text's end, or the first token of the
 /// item or statement.
 ///
-/// The text is read twice, so that no more than one function's syntax stands in memory beside the module: first for the
-/// names of all items, and then for the functions.
+/// The text is gone over twice, so that no more than one function's syntax stands in memory beside the module: first for the
+/// names of all items, where bodies are passed over unread, and then for the functions.
 pub fn read_module(alloc: Global, text: &[u8]) -> Result<Module, TextError>
     requires { length text.now < 2 ^ 32 - 1 }
     // What is read is spelled so.

@@ -12,6 +12,7 @@ ghost use Rattle.gimple_syntax.specs.Items.{names_of};
 ghost use Rattle.gimple_syntax.specs.Layouts.{firsts_from};
 
 use crate::items::{Items, table_of};
+use crate::lent::Lent;
 use crate::literals::value_of;
 use crate::named::Named;
 use crate::table::{NameTable, capped};
@@ -28,31 +29,35 @@ struct Layout {
     types: Vec<ScalarType>,
 }
 
-fn lay_out(alloc: Global, items: &Items<'_>, variables: &[&Declared]) -> Result<Layout, NoMemory>
-    ensures begun { IfOk result (λ found. found.firsts.items ≡ firsts_from items.now.structs 0 (map (λ d. d.now) variables.now)) }
-    ensures typed { IfOk result (λ found. found.types.items ≡ flat_map (λ d. types_of items.now.structs d.ty) (map (λ d. d.now) variables.now)) }
+fn lay_out(
+    alloc: Global,
+    items: &Items<'_, '_>,
+    variables: &[Lent<'_, Declared<'_>>],
+) -> Result<Layout, NoMemory>
+    ensures begun { IfOk result (λ found. found.firsts.items ≡ firsts_from items.now.structs 0 variables.now) }
+    ensures typed { IfOk result (λ found. found.types.items ≡ flat_map (λ d. types_of items.now.structs d.ty) variables.now) }
 {
     let mut firsts = Vec::new(alloc);
     let mut types = Vec::new(alloc);
     for variable in variables {
         firsts.push(capped(types.len()))?;
-        items.add_types(&mut types, &variable.ty)?;
+        items.add_types(&mut types, &variable.get().ty)?;
     }
     Ok(Layout { firsts, types })
 }
 
 /// The names that a function's statements may use.
 #[derive(Drop)]
-pub struct Scope<'s, 'i, 'a> {
-    items: &'s Items<'i>,
-    variables: Vec<&'a Declared>,
-    variable_numbers: NameTable<'a>,
+pub struct Scope<'s, 'i, 'b, 't> {
+    items: &'s Items<'i, 't>,
+    variables: Vec<Lent<'b, Declared<'t>>>,
+    variable_numbers: NameTable<'t>,
     firsts: Vec<u32>,
     types: Vec<ScalarType>,
-    labels: NameTable<'a>,
+    labels: NameTable<'t>,
 }
 
-impl<'s, 'i, 'a> Model for Scope<'s, 'i, 'a> {
+impl<'s, 'i, 'b, 't> Model for Scope<'s, 'i, 'b, 't> {
     ghost use Rattle.std.specs.Prelude.{map};
     ghost use Rattle.gimple_syntax.specs.Places.{Names};
     ghost use Rattle.gimple_syntax.specs.Items.{names_of};
@@ -60,20 +65,20 @@ impl<'s, 'i, 'a> Model for Scope<'s, 'i, 'a> {
 
     ghost Value = { Names };
 
-    ghost view = { λ s. names_of s.items.now (map (λ d. d.now) s.variables.items) s.labels };
+    ghost view = { λ s. names_of s.items.now s.variables.items s.labels };
 
-    ghost invariant = { λ s. IsLaidOut (names_of s.items.now (map (λ d. d.now) s.variables.items) s.labels) s.variable_numbers s.firsts.items s.types.items };
+    ghost invariant = { λ s. IsLaidOut (names_of s.items.now s.variables.items s.labels) s.variable_numbers s.firsts.items s.types.items };
 }
 
-impl<'s, 'i, 'a> Scope<'s, 'i, 'a> {
+impl<'s, 'i, 'b, 't> Scope<'s, 'i, 'b, 't> {
     /// The names in a function with these variables, parameters first, and these labels.
     pub fn new(
         alloc: Global,
-        items: &'s Items<'i>,
-        variables: Vec<&'a Declared>,
-        labels: Vec<&'a str>,
-    ) -> Result<Scope<'s, 'i, 'a>, NoMemory>
-        ensures { IfOk result (λ scope. scope ≡ names_of items.now (map (λ d. d.now) variables.entry.items) (map (λ l. l.now) labels.entry.items)) }
+        items: &'s Items<'i, 't>,
+        variables: Vec<Lent<'b, Declared<'t>>>,
+        labels: Vec<&'t [u8]>,
+    ) -> Result<Scope<'s, 'i, 'b, 't>, NoMemory>
+        ensures { IfOk result (λ scope. scope ≡ names_of items.now variables.entry.items (map (λ l. l.now) labels.entry.items)) }
     {
         let variable_numbers = table_of(alloc, variables.as_slice())?;
         let labels = NameTable::new(alloc, labels)?;
@@ -127,12 +132,12 @@ impl<'s, 'i, 'a> Scope<'s, 'i, 'a> {
     pub fn variable(&self, name: &Identifier, field: Option<&Identifier>) -> Named
         ensures { result ≡ variable_named self.now name.now (option_copied field.entry) }
     {
-        let number = self.variable_numbers.number(name.as_str());
+        let number = self.variable_numbers.number(name.as_slice());
         if number == 0xffff_ffff {
             return Named::Unknown;
         }
         match self.variables.get(number as usize) {
-            Some(declared) => self.variable_at(number, &declared.ty, field),
+            Some(declared) => self.variable_at(number, &declared.get().ty, field),
             None => Named::Unknown,
         }
     }
@@ -157,7 +162,7 @@ impl<'s, 'i, 'a> Scope<'s, 'i, 'a> {
     pub fn label(&self, name: &Identifier) -> u32
         ensures { result ≡ number_of self.now.labels name.now }
     {
-        self.labels.number(name.as_str())
+        self.labels.number(name.as_slice())
     }
 
     /// The number of the function of this name, or 2^32 - 1.

@@ -121,7 +121,7 @@ fn argument_of(named: Named) -> Arg
 
 fn arguments_of(
     alloc: Global,
-    scope: &Scope<'_, '_, '_>,
+    scope: &Scope<'_, '_, '_, '_>,
     args: &[Written],
 ) -> Result<Args, NoMemory>
     ensures { IfOk result (λ found. found ≡ arguments_of scope.now args.now) }
@@ -161,7 +161,7 @@ fn unary(to: Named, op: UnaryOp, from: Named) -> Statement
     }
 }
 
-fn converted(scope: &Scope<'_, '_, '_>, to: Named, ty: ScalarType, from: Named) -> Statement
+fn converted(scope: &Scope<'_, '_, '_, '_>, to: Named, ty: ScalarType, from: Named) -> Statement
     ensures { result ≡ by_two to from unknown_statement ill_typed (converted scope.now ty) }
 {
     match (to, from) {
@@ -211,13 +211,13 @@ fn load(to: Named, array: Named, index: Named) -> Statement
     }
 }
 
-fn is_sound_call(scope: &Scope<'_, '_, '_>, function: u32, args: &[Written]) -> bool
+fn is_sound_call(scope: &Scope<'_, '_, '_, '_>, function: u32, args: &[Written]) -> bool
     ensures { result ≡ is_sound_call scope.now function args.now }
 {
     counts(scope, function, args.len()) && !any_unknown(scope, args)
 }
 
-fn counts(scope: &Scope<'_, '_, '_>, function: u32, args: usize) -> bool
+fn counts(scope: &Scope<'_, '_, '_, '_>, function: u32, args: usize) -> bool
     ensures { result ≡ option_map_or (nat_eq args) (at_number scope.now.arities function) false }
 {
     match scope.arity(function) {
@@ -226,7 +226,7 @@ fn counts(scope: &Scope<'_, '_, '_>, function: u32, args: usize) -> bool
     }
 }
 
-fn any_unknown(scope: &Scope<'_, '_, '_>, args: &[Written]) -> bool
+fn any_unknown(scope: &Scope<'_, '_, '_, '_>, args: &[Written]) -> bool
     ensures { result ≡ list_any (λ a. is_unknown (operand_named scope.now a)) args.now }
 {
     args.iter().any(|a| is_unknown(scope.operand(a)))
@@ -234,7 +234,7 @@ fn any_unknown(scope: &Scope<'_, '_, '_>, args: &[Written]) -> bool
 
 fn call(
     alloc: Global,
-    scope: &Scope<'_, '_, '_>,
+    scope: &Scope<'_, '_, '_, '_>,
     to: Option<u32>,
     function: u32,
     args: &[Written],
@@ -247,7 +247,7 @@ fn call(
 
 fn call_into(
     alloc: Global,
-    scope: &Scope<'_, '_, '_>,
+    scope: &Scope<'_, '_, '_, '_>,
     to: Named,
     function: u32,
     args: &[Written],
@@ -285,7 +285,7 @@ fn getchar_into(to: Named) -> Statement
 
 fn called_into(
     alloc: Global,
-    scope: &Scope<'_, '_, '_>,
+    scope: &Scope<'_, '_, '_, '_>,
     to: Named,
     name: &Identifier,
     args: &[Written],
@@ -301,7 +301,7 @@ fn called_into(
 #[tactic(auto, unfolding(crate::specs::Statements::assigned))]
 fn assigned(
     alloc: Global,
-    scope: &Scope<'_, '_, '_>,
+    scope: &Scope<'_, '_, '_, '_>,
     to: Named,
     right: &Right,
 ) -> Result<Statement, NoMemory>
@@ -318,7 +318,7 @@ fn assigned(
     }
 }
 
-fn binary_of(scope: &Scope<'_, '_, '_>, to: Named, b: &Binary) -> Statement
+fn binary_of(scope: &Scope<'_, '_, '_, '_>, to: Named, b: &Binary) -> Statement
     ensures { result ≡ by_three to (operand_named scope.now b.now.left) (operand_named scope.now b.now.right) unknown_statement ill_typed (λ x l r. BinaryOf (component x) b.now.op l r) }
 {
     binary(to, b.op, scope.operand(&b.left), scope.operand(&b.right))
@@ -346,7 +346,7 @@ fn exit(named: Named) -> Statement
 
 fn builtin_of_one(
     alloc: Global,
-    scope: &Scope<'_, '_, '_>,
+    scope: &Scope<'_, '_, '_, '_>,
     name: &Identifier,
     args: &[Written],
     a: &Written,
@@ -365,7 +365,7 @@ fn builtin_of_one(
 
 fn called(
     alloc: Global,
-    scope: &Scope<'_, '_, '_>,
+    scope: &Scope<'_, '_, '_, '_>,
     name: &Identifier,
     args: &[Written],
 ) -> Result<Statement, NoMemory>
@@ -396,7 +396,7 @@ fn stored(array: Named, index: Named, from: Named) -> Statement
 #[tactic(auto, unfolding(crate::specs::Statements::named_statement))]
 fn named_statement(
     alloc: Global,
-    scope: &Scope<'_, '_, '_>,
+    scope: &Scope<'_, '_, '_, '_>,
     labels: usize,
     name: &Identifier,
     tail: &Tail,
@@ -440,7 +440,7 @@ fn compared(op: BinaryOp, left: Named, right: Named, met: u32, missed: u32) -> S
     }
 }
 
-fn condition_of(scope: &Scope<'_, '_, '_>, c: &Condition) -> Statement
+fn condition_of(scope: &Scope<'_, '_, '_, '_>, c: &Condition) -> Statement
     ensures { result ≡ condition_of scope.now c.now }
 {
     let met = scope.label(&c.met);
@@ -454,7 +454,7 @@ fn condition_of(scope: &Scope<'_, '_, '_>, c: &Condition) -> Statement
     )
 }
 
-fn case_of(scope: &Scope<'_, '_, '_>, c: &CaseLabel) -> Case
+fn case_of(scope: &Scope<'_, '_, '_, '_>, c: &CaseLabel) -> Case
     ensures { result ≡ case_of scope.now c.now }
 {
     Case {
@@ -465,7 +465,7 @@ fn case_of(scope: &Scope<'_, '_, '_>, c: &CaseLabel) -> Case
 
 fn cases_of(
     alloc: Global,
-    scope: &Scope<'_, '_, '_>,
+    scope: &Scope<'_, '_, '_, '_>,
     cases: &[CaseLabel],
 ) -> Result<Vec<Case>, NoMemory>
     ensures { IfOk result (λ found. found.items ≡ map (case_of scope.now) cases.now) }
@@ -495,7 +495,11 @@ fn switched(on: Named, cases: Vec<Case>, otherwise: u32) -> Result<Statement, No
     }
 }
 
-fn switch_of(alloc: Global, scope: &Scope<'_, '_, '_>, c: &Choice) -> Result<Statement, NoMemory>
+fn switch_of(
+    alloc: Global,
+    scope: &Scope<'_, '_, '_, '_>,
+    c: &Choice,
+) -> Result<Statement, NoMemory>
     ensures { IfOk result (λ s. s ≡ switch_of scope.now c.now) }
 {
     let cases = cases_of(alloc, scope, c.cases.as_slice())?;
@@ -512,7 +516,7 @@ fn given_back(returned: ResultType, named: Named) -> Statement
     }
 }
 
-fn return_of(scope: &Scope<'_, '_, '_>, returned: ResultType, a: &Option<Written>) -> Statement
+fn return_of(scope: &Scope<'_, '_, '_, '_>, returned: ResultType, a: &Option<Written>) -> Statement
     ensures { result ≡ return_of scope.now returned a.now }
 {
     match a {
@@ -525,7 +529,7 @@ fn return_of(scope: &Scope<'_, '_, '_>, returned: ResultType, a: &Option<Written
 #[tactic(auto, unfolding(crate::specs::Statements::statement_of))]
 pub fn statement_of(
     alloc: Global,
-    scope: &Scope<'_, '_, '_>,
+    scope: &Scope<'_, '_, '_, '_>,
     returned: ResultType,
     labels: usize,
     form: &Form,

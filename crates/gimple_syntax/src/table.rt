@@ -6,15 +6,15 @@ ghost use Rattle.gimple_syntax.specs.Table.{number_in, first_number, or_else, Fi
 
 use gimple_ir::NoMemory;
 use std::alloc::Global;
-use std::collections::BTreeMap;
+use std::collections::HashMap;
 use std::marker::Model;
 
-type Numbers<'a> = BTreeMap<&'a str, u32>;
+type Numbers<'a> = HashMap<&'a [u8], u32>;
 
 /// Names in order, with the number of each: that of the first place at which it stands.
 #[derive(Drop)]
 pub struct NameTable<'a> {
-    names: Vec<&'a str>,
+    names: Vec<&'a [u8]>,
     numbers: Numbers<'a>,
 }
 
@@ -41,7 +41,7 @@ pub fn capped(count: usize) -> u32
 }
 
 /// Gives a name its number, unless it has one.
-fn number_name<'a>(numbers: &mut Numbers<'a>, name: &'a str, number: u32) -> Result<(), NoMemory>
+fn number_name<'a>(numbers: &mut Numbers<'a>, name: &'a [u8], number: u32) -> Result<(), NoMemory>
     ensures { OnOk result ((q : List ℕ) → number_in numbers.new q ≡ or_else (number_in numbers.old q) (if bytes_eq q name.now then Some number else None)) }
 {
     if !numbers.contains_key(name) {
@@ -50,10 +50,10 @@ fn number_name<'a>(numbers: &mut Numbers<'a>, name: &'a str, number: u32) -> Res
     Ok(())
 }
 
-fn number_names<'a>(alloc: Global, names: &[&'a str]) -> Result<Numbers<'a>, NoMemory>
+fn number_names<'a>(alloc: Global, names: &[&'a [u8]]) -> Result<Numbers<'a>, NoMemory>
     ensures { IfOk result (λ numbers. Finds (map (λ name. name.now) names.now) numbers) }
 {
-    let mut numbers = BTreeMap::new(alloc);
+    let mut numbers = HashMap::new(alloc);
     for place in 0..names.len() {
         number_name(&mut numbers, names[place], capped(place))?;
     }
@@ -62,7 +62,7 @@ fn number_names<'a>(alloc: Global, names: &[&'a str]) -> Result<Numbers<'a>, NoM
 
 impl<'a> NameTable<'a> {
     /// The table of these names.
-    pub fn new(alloc: Global, names: Vec<&'a str>) -> Result<NameTable<'a>, NoMemory>
+    pub fn new(alloc: Global, names: Vec<&'a [u8]>) -> Result<NameTable<'a>, NoMemory>
         ensures { IfOk result (λ table. table ≡ map (λ name. name.now) names.entry.items) }
     {
         let numbers = number_names(alloc, names.as_slice())?;
@@ -70,7 +70,7 @@ impl<'a> NameTable<'a> {
     }
 
     /// The number of the name, or 2^32 - 1 where it is none of the names.
-    pub fn number(&self, name: &str) -> u32
+    pub fn number(&self, name: &[u8]) -> u32
         ensures { result ≡ number_of self.now name.now }
     {
         match self.numbers.get(name) {

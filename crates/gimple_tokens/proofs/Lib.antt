@@ -2,4 +2,4 @@ pub mod Digits
 pub mod Steps
 pub mod Named
 pub mod Counts
-pub mod IdentifierText
+pub mod Braces

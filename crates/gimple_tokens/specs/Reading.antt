@@ -3,6 +3,7 @@ use Rattle.std.specs.Prelude.{◌≡◌, ℕ, Bool, true, false, List, [], ◌�
 use denote.Enum.Bare.{sameb}
 use Rattle.gimple_tokens.specs.contracts.token.Keyword.{the_type as keyword}
 use Rattle.gimple_tokens.specs.contracts.token.Mark.{the_type as mark}
+use Rattle.gimple_tokens.specs.declared.token.Mark.TheVariants.{CloseCurly}
 use Rattle.gimple_tokens.specs.declared.token.Suffix.TheVariants.{Plain}
 use Rattle.gimple_tokens.specs.Tokens.{Lexeme, Name, Word, Number, Sign, End, Placed, placed, same_text}
 
@@ -31,6 +32,15 @@ same _ _ = false
 unfoldable pub passed : Lexeme → List Placed → Option (List Placed)
 passed t [] = None
 passed t (p ∷ ts) = if same t p.token then Some ts else None
+
+-- what is left after the first brace that closes, if one is left
+unfoldable pub after_brace : List Placed → List Placed
+after_brace [] = []
+after_brace (p ∷ ts) = if same (Sign CloseCurly) p.token then ts else after_brace ts
+
+-- What a call leaves that passes over all tokens up to the first such brace, and over that. Where none is left, nothing is said.
+abbrev pub SkipsPastBrace : List Placed → List Placed → Type 0
+SkipsPastBrace before after = (p : Placed) (ts : List Placed) → after_brace before ≡ p ∷ ts → after ≡ p ∷ ts
 
 -- the number of a token without a suffix, where it is below the limit
 abbrev pub number_below : ℕ → Lexeme → Option ℕ

@@ -3,33 +3,25 @@ ghost use Rattle.std.specs.Prelude.{◌≡◌, IfOk};
 ghost use Rattle.gimple_ir.specs.Programs.{IsIdentifier};
 
 use gimple_ir::{Name, NoMemory};
-use smallvec::SmallVec;
 use std::alloc::Global;
 use std::marker::Model;
 
-/// A name of 1 to 255 letters, digits and underscores that does not begin with a digit and is no keyword. One of up to 16
-/// bytes takes no memory of its own.
+/// A name of 1 to 255 letters, digits and underscores that does not begin with a digit and is no keyword. It refers to the
+/// text in which it stands.
 #[derive(Debug, Drop)]
-pub struct Identifier {
-    bytes: SmallVec<u8, 16, Global>,
+pub struct Identifier<'a> {
+    bytes: &'a [u8],
 }
 
-impl Model for Identifier {
+impl<'a> Model for Identifier<'a> {
     ghost use Rattle.std.specs.Prelude.{List, ℕ};
     ghost use Rattle.gimple_ir.specs.Programs.{IsIdentifier};
 
     ghost Value = { List ℕ };
 
-    ghost view = { λ identifier. identifier.bytes.items };
+    ghost view = { λ identifier. identifier.bytes.now };
 
-    ghost invariant = { λ identifier. IsIdentifier identifier.bytes.items };
-}
-
-fn as_text(bytes: &[u8]) -> &str
-    requires { IsIdentifier bytes.now }
-    ensures { result.now ≡ bytes.now }
-{
-    str::from_utf8(bytes).unwrap()
+    ghost invariant = { λ identifier. IsIdentifier identifier.bytes.now };
 }
 
 fn name_of(alloc: Global, bytes: &[u8]) -> Result<Name, NoMemory>
@@ -42,37 +34,27 @@ fn name_of(alloc: Global, bytes: &[u8]) -> Result<Name, NoMemory>
     }
 }
 
-impl Identifier {
-    pub(crate) fn from_bytes(alloc: Global, bytes: &[u8]) -> Result<Identifier, NoMemory>
+impl<'a> Identifier<'a> {
+    pub(crate) fn from_bytes(bytes: &'a [u8]) -> Identifier<'a>
         requires { IsIdentifier bytes.now }
-        ensures { IfOk result (λ identifier. identifier ≡ bytes.now) }
+        ensures { result ≡ bytes.now }
     {
-        Ok(Identifier {
-            bytes: SmallVec::from_slice(alloc, bytes)?,
-        })
+        Identifier { bytes }
     }
 
     /// The bytes, in order.
-    pub fn as_slice(&self) -> &[u8]
+    pub fn as_slice(&self) -> &'a [u8]
         ensures value { result.now ≡ self.now }
         ensures identifier { IsIdentifier self.now }
     {
-        self.bytes.as_slice()
-    }
-
-    /// The bytes as text; they are ASCII.
-    pub fn as_str(&self) -> &str
-        ensures value { result.now ≡ self.now }
-        ensures identifier { IsIdentifier self.now }
-    {
-        as_text(self.bytes.as_slice())
+        self.bytes
     }
 
     /// The identifier as a name.
-    pub fn copy(&self) -> Result<Name, NoMemory>
+    pub fn copy(&self, alloc: Global) -> Result<Name, NoMemory>
         ensures value { IfOk result (λ name. name ≡ self.now) }
         ensures identifier { IfOk result IsIdentifier }
     {
-        name_of(*self.bytes.allocator(), self.bytes.as_slice())
+        name_of(alloc, self.bytes)
     }
 }

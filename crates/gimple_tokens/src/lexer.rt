@@ -1,9 +1,10 @@
 // The tokens of a text, taken as long as possible: `specs/Tokens.antt` says which they are, and this finds the first.
 ghost use Rattle.std.specs.Prelude.{◌≡◌, ◌+◌, ◌<◌, ◌≤◌, ◌^◌, ◌∷◌, ◌*◌, ◌-◌, ◌&&◌, ◌==◌, nat_lt, length, drop, if◌then◌else◌};
 ghost use Rattle.std.specs.List.{prefix_len};
-ghost use Rattle.gimple_tokens.specs.Tokens.{Lexeme, Piece, Bad, Name, Word, lexeme_of, placed, followed, is_space, is_letter, is_digit, is_word_byte, is_bad, is_comment_byte, word_of, value_of, small, suffix_at, suffix_len, sign_at, number_at, word_at, piece_at, tokens_from, one, IsNamed};
+ghost use Rattle.gimple_tokens.specs.Tokens.{Lexeme, Piece, Bad, Name, Word, lexeme_of, placed, followed, is_space, is_letter, is_digit, is_word_byte, is_bad, is_comment_byte, is_slash_first, word_of, value_of, small, suffix_at, suffix_len, sign_at, number_at, word_at, piece_at, tokens_from, one, IsNamed};
 ghost use Rattle.gimple_tokens.specs.declared.token.TextKind.TheVariants.{Syntax};
 ghost use Rattle.gimple_tokens.specs.Found.{found, belongs};
+ghost use Rattle.gimple_tokens.specs.Reading.{SkipsPastBrace};
 
 use crate::token::{Keyword, Mark, Suffix, TextKind, Token};
 
@@ -331,4 +332,41 @@ pub fn lex(text: &[u8], line: u32) -> Lexed<'_>
         line,
         rest,
     }
+}
+
+/// Bytes of a text, and the line that they begin in.
+#[derive(Clone, Copy)]
+pub(crate) struct Remainder<'a> {
+    pub(crate) line: u32,
+    pub(crate) bytes: &'a [u8],
+}
+
+// How many of the bytes after the first belong to a comment that it begins.
+fn comment_at(first: u8, after: &[u8]) -> usize
+    ensures value { result ≡ (if first == 47 && is_slash_first after.now then prefix_len is_comment_byte after.now else 0) }
+    ensures within { result ≤ length after.now }
+{
+    match (first, after) {
+        (b'/', [b'/', ..]) => comment_bytes(after),
+        _ => 0,
+    }
+}
+
+/// The bytes after the first brace that closes and is in no comment. Where none is left, no bytes.
+pub(crate) fn past_brace(text: &[u8], line: u32) -> Remainder<'_>
+    requires { line + length text.now < 2 ^ 32 }
+    ensures within { result.line + length result.bytes.now < 2 ^ 32 }
+    ensures value { SkipsPastBrace (tokens_from line 0 text.now) (tokens_from result.line 0 result.bytes.now) }
+{
+    let mut rest = text;
+    let mut line = line;
+    'bytes: while let Some((first, after)) = rest.split_first() {
+        let is_brace = *first == b'}';
+        if is_brace {
+            return Remainder { line, bytes: after };
+        }
+        line = line_after(*first, line);
+        rest = bytes_from(after, comment_at(*first, after));
+    }
+    Remainder { line, bytes: rest }
 }

@@ -1,19 +1,18 @@
 // A reader of tokens that looks one token ahead, so that each byte of the text is looked at once.
 ghost use Rattle.std.specs.Prelude.{◌≡◌, ◌<◌, ◌≤◌, ◌+◌, ◌^◌, ◌-◌, ◌∷◌, true, false, length, drop, is_some, IfSome, IsTrue, []};
-ghost use Rattle.gimple_tokens.specs.Tokens.{tokens_of, ends, placed, Name, Word, Sign, End};
-ghost use Rattle.gimple_tokens.specs.Reading.{head_of, first_of, line_of, same, passed, read_number, Gives, Passes};
+ghost use Rattle.gimple_tokens.specs.Tokens.{tokens_of, tokens_from, ends, placed, Name, Word, Sign, End};
+ghost use Rattle.gimple_tokens.specs.Reading.{head_of, first_of, line_of, same, passed, read_number, Gives, Passes, SkipsPastBrace};
 ghost use Rattle.gimple_tokens.specs.Numbers.{limit_of, number_in, number_fault, length_in, length_fault};
 ghost use Rattle.gimple_tokens.specs.Operators.{operator_in};
 ghost use Rattle.gimple_tokens.specs.Stops.{fault_at, past, single_at, name_in, GivesOr, PassesOr};
 
 use crate::failure::Failure;
 use crate::identifier::Identifier;
-use crate::lexer::{Lexed, lex};
+use crate::lexer::{Lexed, lex, past_brace};
 use crate::numbers::{NumberPlace, fault_at, is_in_range, length_fault, number_fault};
 use crate::operators::operator_of;
 use crate::token::{Keyword, Mark, Suffix, TextKind, Token};
 use gimple_ir::BinaryOp;
-use std::alloc::Global;
 use std::marker::Model;
 
 /// The tokens of a text that are left, of which the first is known. Contracts see it as the list of them, each with
@@ -93,14 +92,43 @@ impl<'a> Reader<'a> {
         matches!(self.token, Token::End)
     }
 
+    fn is_last(&self) -> bool
+        ensures value { result ≡ ends (head_of self.now) }
+        ensures last { IsTrue result → self.now ≡ first_of self.now ∷ [] }
+    {
+        matches!(self.token, Token::End | Token::Bad(_))
+    }
+
+    fn go_to(&mut self, text: &'a [u8], line: u32)
+        requires { line + length text.now < 2 ^ 32 }
+        ensures { self.new ≡ tokens_from line 0 text.now }
+    {
+        let Lexed { token, line, rest } = lex(text, line);
+        self.token = token;
+        self.line = line;
+        self.rest = rest;
+    }
+
     fn advance(&mut self)
         requires { ends (head_of self.old) ≡ false }
         ensures { self.old ≡ first_of self.old ∷ self.new }
     {
-        let Lexed { token, line, rest } = lex(self.rest, self.line);
-        self.token = token;
-        self.line = line;
-        self.rest = rest;
+        self.go_to(self.rest, self.line);
+    }
+
+    /// Passes over the tokens up to the first `}`, and over that, without looking at what they are. Where no `}` is left, or a
+    /// fault stands before it, nothing is said of what is left.
+    pub fn skip_past_brace(&mut self)
+        ensures { SkipsPastBrace self.old self.new }
+    {
+        if self.is_last() {
+            return;
+        }
+        if self.is_sign(Mark::CloseCurly) {
+            return self.advance();
+        }
+        let left = past_brace(self.rest, self.line);
+        self.go_to(left.bytes, left.line);
     }
 
     /// Passes over a sign. `None` where another token stands first.
@@ -192,16 +220,15 @@ impl<'a> Reader<'a> {
         Ok(())
     }
 
-    /// Reads a name, which must stand first. After `NoMemory` it still does.
+    /// Reads a name, which must stand first.
     #[tactic(auto, unfolding(crate::specs::Stops::single_at))]
-    pub fn name(&mut self, alloc: Global) -> Result<Identifier, Failure>
+    pub fn name(&mut self) -> Result<Identifier<'a>, Failure>
         ensures { GivesOr result self.new (single_at name_in fault_at self.old) }
     {
         match self.token {
             Token::Name(text) => {
-                let name = Identifier::from_bytes(alloc, text)?;
                 self.advance();
-                Ok(name)
+                Ok(Identifier::from_bytes(text))
             }
             _ => Err(Failure::Fault(self.fault())),
         }

@@ -10,12 +10,13 @@ use Rattle.gimple_ir.specs.declared.types.StructDef.{StructDef}
 use Rattle.gimple_ir.specs.declared.types.Array.{Array}
 use Rattle.gimple_ir.specs.declared.types.Function.{Function}
 use Rattle.gimple_ir.specs.declared.types.Module.{Module}
+use Rattle.gimple_grammar.specs.Streams.{no_body}
 use Rattle.gimple_grammar.specs.declared.syntax.ArrayText.{ArrayText}
 use Rattle.gimple_grammar.specs.declared.syntax.FunctionText.{FunctionText}
 use Rattle.gimple_grammar.specs.declared.syntax.Body.{Body}
 use Rattle.gimple_grammar.specs.declared.syntax.Item.{Item}
 use Rattle.gimple_grammar.specs.declared.syntax.Item.TheVariants as item
-use Rattle.gimple_syntax.specs.Items.{struct_in, array_in, array_text, function_in, function_head, structs_in, arrays_in, functions_in, function_heads, LinkedArray, LinkedFunction, no_body}
+use Rattle.gimple_syntax.specs.Items.{struct_in, array_in, array_text, function_in, function_head, structs_in, arrays_in, functions_in, function_heads, LinkedArray, LinkedFunction}
 use Rattle.text_laws.specs.Syntax.{struct_of, array_of, head_of, body_of, array_item, function_by, function_item, height_of, structs_from, arrays_from, functions_from, syntax_of}
 
 -- ---- what a search gives of the items

@@ -10,6 +10,7 @@ use Rattle.gimple_ir.specs.declared.types.Module.{Module}
 use Rattle.gimple_ir.specs.Checks.{is_extern, fault_of}
 use Rattle.gimple_ir.specs.Programs.{IsIdentifier, AgreesIn, IsStatedStruct, IsStatedArray, IsStatedFunction, IsStated, IsChecked}
 use Rattle.gimple_tokens.specs.Tokens.{tokens_of}
+use Rattle.gimple_grammar.specs.Streams.{no_body}
 use Rattle.gimple_grammar.specs.Texts.{Spells}
 use Rattle.gimple_grammar.specs.declared.syntax.«Type».{«Type» as TheType}
 use Rattle.gimple_grammar.specs.declared.syntax.Declared.{Declared}
@@ -22,7 +23,7 @@ use Rattle.gimple_grammar.specs.declared.syntax.ItemLine.{ItemLine}
 use Rattle.gimple_syntax.specs.Numbers.{nothing}
 use Rattle.gimple_syntax.specs.Places.{var_type, types_of, variable_of}
 use Rattle.gimple_syntax.specs.Statements.{label_name, label_names, statements_from}
-use Rattle.gimple_syntax.specs.Items.{LinkedFunction, struct_in, array_in, function_in, structs_in, arrays_in, functions_in, no_body, struct_of, array_of, parameters_of, items_of, names_of, function_of, module_of}
+use Rattle.gimple_syntax.specs.Items.{LinkedFunction, struct_in, array_in, function_in, structs_in, arrays_in, functions_in, struct_of, array_of, parameters_of, items_of, names_of, function_of, module_of}
 use Rattle.gimple_syntax.specs.Reading.{SpellsModule}
 use Rattle.text_laws.proofs.NamedTexts.{HasIdentifier, IsNamedLine, IsNamedHead, IsNamedItem, IsNamedItemLine, items-named}
 use Rattle.text_laws.proofs.StatedValues.{body-values}

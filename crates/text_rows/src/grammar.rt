@@ -1,8 +1,8 @@
 // Texts against the rules of the language: every form once, and each kind of fault with its line.
 ghost use Rattle.std.specs.Prelude.{◌<◌, length};
 
-use gimple_grammar::{SyntaxError, read_text};
-use gimple_tokens::TextKind;
+use gimple_grammar::{Item, SyntaxError, next_outline, read_text};
+use gimple_tokens::{Reader, TextKind};
 use std::alloc::Global;
 use std::test::Fail;
 
@@ -53,6 +53,30 @@ fn every_form(rt: HostRuntime) -> Result<(), Fail> {
     let items = read_text(rt.alloc(), EVERY_FORM.as_bytes())?;
     assert_eq!(rt; items.len(), 10);
     assert_eq!(rt; items.as_slice()[9].line, 15);
+    Ok(())
+}
+
+fn is_without_body(item: &Item) -> bool {
+    match item {
+        Item::Function(_, _, body) => body.locals.len() == 0 && body.lines.len() == 0,
+        _ => true,
+    }
+}
+
+// The items of the text one by one, each function without its body.
+#[test]
+fn outlines(rt: HostRuntime) -> Result<(), Fail> {
+    let mut reader = Reader::new(EVERY_FORM.as_bytes());
+    for line in [2, 3, 4, 5, 6, 7, 8, 9, 12, 15] {
+        match next_outline(rt.alloc(), &mut reader)? {
+            Some(outline) => {
+                assert_eq!(rt; outline.line, line);
+                assert!(rt; is_without_body(&outline.item));
+            }
+            None => assert!(rt; false),
+        }
+    }
+    assert!(rt; next_outline(rt.alloc(), &mut reader)?.is_none());
     Ok(())
 }
 

@@ -55,7 +55,7 @@ fn link_of(words: &[String]) -> Option<&str>
 /// | 7 | `7 memory` | there was no memory |
 /// | 8 | `8 resolution KIND NAME` | the objects define the name twice, or not at all, or no `int main ()` that is strong or weak; for `cc`, a statement names a declaration, or there is no such `main` |
 /// | 9 | `9 text LINE KIND` | the text is outside the grammar or the checks; its first fault is in this line |
-/// | 10 | `10 jobs LINE` | the job file has another form; its first bad line |
+/// | 10 | `10 jobs LINE` | the job file has another form; its first bad line, or 1 where `interp` is given another number of jobs than one |
 /// | 11 | `11 image OFFSET` | the image can't be loaded; its first fault is at this byte |
 pub fn plain<F: FileStore, K: Sink>(
     alloc: Global,

@@ -3,4 +3,4 @@ use Rattle.gimple_syntax.specs.Places.{variable_of}
 use Rattle.gimple_syntax.proofs.functions.variables_of.Given as goal
 
 abbrev pub invariant-loop-declared : goal.invariant-loop-declared
-invariant-loop-declared l = l.found ≡ map (variable_of l.items.structs) (map (λ d. d.now) (take l.declared-index l.all))
+invariant-loop-declared l = l.found ≡ map (variable_of l.items.structs) (take l.declared-index l.all)

@@ -3,4 +3,4 @@ use Rattle.gimple_syntax.specs.Items.{arity}
 use Rattle.gimple_syntax.proofs.items.arities.Given as goal
 
 abbrev pub invariant-loop-head : goal.invariant-loop-head
-invariant-loop-head l = l.arities.items ≡ map arity (map (λ head. head.now) (take l.head-index l.heads))
+invariant-loop-head l = l.arities.items ≡ map arity (take l.head-index l.heads)

@@ -2,13 +2,12 @@ use Rattle.std.proofs.Common.{arith, inl}
 use Rattle.std.proofs.lemmas.Result.{err_from_is_err_and}
 use Rattle.gimple_syntax.specs.Items.{module_of}
 use Rattle.gimple_syntax.specs.Passes.{items_read}
-use Rattle.gimple_syntax.proofs.Outlined.{all_counted, passes, fails, unread}
+use Rattle.gimple_syntax.proofs.Outlined.{few-items, passes, fails, unread}
 use Rattle.gimple_syntax.proofs.read.checked.Goals as goal
 
 pub check_module-requires : goal.check_module-requires
 check_module-requires c =
-    let all = all_counted (items_read c.args.text.now) c.args.outlines.now c.in_ok-found.found c.requires.outlined c.in_ok-found.ensures in
-    omega (arith, all, c.requires.few)
+    few-items (items_read c.args.text.now) c.in_ok-found.found (λ answer given. c.reading_laws.ensures.few answer given c.requires.few) c.in_ok-found.ensures
 
 pub returns-in_err-found : goal.returns-in_err-found
 returns-in_err-found c =

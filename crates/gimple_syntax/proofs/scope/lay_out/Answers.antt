@@ -1,4 +1,4 @@
-use Rattle.std.proofs.Common.{◌≡◌, ◌+◌, ◌++◌, length, map, drop, min, arith, ◌∙◌, ap}
+use Rattle.std.proofs.Common.{◌≡◌, ◌+◌, ◌++◌, length, drop, min, arith, ◌∙◌, ap}
 use Rattle.std.proofs.lemmas.Grind.{common_steps}
 use Rattle.gimple_syntax.specs.Numbers.{nothing}
 use Rattle.gimple_syntax.specs.Places.{types_of}
@@ -14,10 +14,10 @@ loop-variable-preserved c =
     let len : c.len.result ≡ length types = omega arith in
     record {
       begun =
-          ap (λ ts. c.push.new.self.items ++ firsts_from structs (length ts) (drop (i + 1) (map (λ d. d.now) c.args.variables.now)))
-          (c.in_ok-add_types.ensures ∙ ap (λ d. types ++ types_of structs d.now.ty) c.variable-item.is)
+          ap (λ ts. c.push.new.self.items ++ firsts_from structs (length ts) (drop (i + 1) c.args.variables.now))
+          (c.in_ok-add_types.ensures ∙ ap (λ d. types ++ types_of structs d.ty) (c.get.ensures ∙ c.variable-item.is))
           ∙ firsts-more structs c.args.variables.now i c.variable-item.result c.loop-variable.firsts.items c.push.new.self.items
-          (firsts_from structs 0 (map (λ d. d.now) c.args.variables.now)) types c.capped.result (omega arith)
+          (firsts_from structs 0 c.args.variables.now) types c.capped.result (omega arith)
           (c.capped.ensures ∙ ap (λ n. min n nothing) len) c.in_ok-push.ensures.items c.loop-variable.invariant.begun;
       typed = grind (arith, common_steps);
     }

@@ -1,16 +1,9 @@
-//! Worked rows of `gimple_ir`, `gimple_checks`, `func_summary`, `call_graph`, `balanced_partition` and `gimple_meaning`: tests
-//! alone, which call what is public there. They stand apart from those crates so that a proof of the tests is not one more
-//! proof of the crates.
+//! Worked rows of `gimple_ir`, `gimple_checks`, `func_summary` and `balanced_partition` that no command shows: tests alone, which
+//! call what is public there. They stand apart from those crates so that a proof of the tests is not one more proof of the crates.
 #![tactic(auto)]
 
 #[cfg(test)]
 mod checks;
-#[cfg(test)]
-mod item_checks;
-#[cfg(test)]
-mod live;
-#[cfg(test)]
-mod meaning;
 #[cfg(test)]
 mod operators;
 #[cfg(test)]

@@ -16,4 +16,5 @@ mod symbols;
 
 pub use fault::{LimitFault, LinkError, Quantity};
 pub use laws::versioned;
+pub use limits::first_passed;
 pub use linking::link_program;

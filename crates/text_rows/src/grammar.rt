@@ -1,9 +1,6 @@
-// Texts against the rules of the language: every form once, and each kind of fault with its line.
-ghost use Rattle.std.specs.Prelude.{◌<◌, length};
-
-use gimple_grammar::{Item, SyntaxError, next_outline, read_text};
-use gimple_tokens::{Reader, TextKind};
-use std::alloc::Global;
+// A text with every form of the language, and its items one by one.
+use gimple_grammar::{Item, next_outline, read_text};
+use gimple_tokens::Reader;
 use std::test::Fail;
 
 const EVERY_FORM: &str = "// every form
@@ -78,78 +75,4 @@ fn outlines(rt: HostRuntime) -> Result<(), Fail> {
     }
     assert!(rt; next_outline(rt.alloc(), &mut reader)?.is_none());
     Ok(())
-}
-
-// The line and the kind of a text's fault; line 0 where it has none.
-fn fault_of(alloc: Global, text: &[u8]) -> (u32, Option<TextKind>) {
-    if text.len() >= 10_000 {
-        return (0, None);
-    }
-    match read_text(alloc, text) {
-        Err(SyntaxError::Fault(fault)) => (fault.line, Some(fault.kind)),
-        _ => (0, None),
-    }
-}
-
-// What may come is no fault, and what may not is one of its kind, at the line of its byte or token.
-#[test]
-fn first_faults(rt: HostRuntime) {
-    let rows = [
-        ("", 0, ' '),
-        ("// no newline", 0, ' '),
-        ("int A[1] = {1\n", 2, 's'),
-        ("int f () {\n  x = 1\n}", 3, 's'),
-        ("int A[08];", 1, 'l'),
-        ("int 08", 1, 'l'),
-        ("int A[4294967295];", 0, ' '),
-        ("int A[4294967296];", 1, 'l'),
-        ("int A[4u];", 1, 's'),
-        ("int A[1] = {};", 1, 's'),
-        ("int A[1] = {2147483647};", 0, ' '),
-        ("int A[1] = {2147483648};", 1, 'l'),
-        ("int A[1] = {-2147483648};", 0, ' '),
-        ("int A[1] = {-2147483649};", 1, 'l'),
-        ("int A[1] = {1l};", 1, 's'),
-        ("unsigned char A[1] = {255};", 0, ' '),
-        ("unsigned char A[1] = {256};", 1, 'l'),
-        ("unsigned int A[1] = {-1};", 1, 'l'),
-        ("unsigned int A[1] = {-0};", 0, ' '),
-        ("void f() { x = -\n5u; }", 2, 'l'),
-        ("void f() { x = 2147483648; }", 1, 'l'),
-        ("void f() { x = -2147483648; }", 0, ' '),
-        ("void f() { x = 4294967295u; }", 0, ' '),
-        ("void f() { x = 18446744073709551616ul; }", 1, 'l'),
-        ("void f() { goto 5; }", 1, 's'),
-        ("void f() { x = -a + b; }", 1, 's'),
-        ("void f() { x = - - a; }", 1, 's'),
-        ("void f() { x = - -5 + 1; }", 1, 's'),
-        ("void f() { x = y -5; x = y - 5; }", 0, ' '),
-        ("void f() { if (a = b) goto L; else goto M; }", 1, 's'),
-        ("void f() { switch (a) <case 1: L, default: M>; }", 1, 's'),
-        ("void f() { x = 5; int y; }", 1, 's'),
-        ("void f() { f (a,); }", 1, 's'),
-        ("void f(void, int x) {}", 1, 's'),
-        ("void f(int x) {}", 0, ' '),
-        ("void A [4];", 1, 's'),
-        ("unsigned char f () {}", 1, 's'),
-        ("extern int A[1] = {1};", 1, 's'),
-        ("static struct p { int x; };", 1, 's'),
-        ("struct p {};", 0, ' '),
-        ("void f() { x = 5 \x01 }", 1, 'b'),
-        ("\r\n\t\n// \x7f", 3, 'b'),
-        ("void f() { @", 1, 's'),
-    ];
-    for (text, line, kind) in rows {
-        let kind = match kind {
-            's' => Some(TextKind::Syntax),
-            'l' => Some(TextKind::Literal),
-            'b' => Some(TextKind::Byte),
-            _ => None,
-        };
-        assert_eq!(rt;
-            fault_of(rt.alloc(), text.as_bytes()),
-            (line, kind),
-            "{text}"
-        );
-    }
 }

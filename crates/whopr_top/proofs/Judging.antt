@@ -25,7 +25,8 @@ use Rattle.symbol_resolution.specs.Merging.{merged_of, program_of}
 use Rattle.link_laws.specs.Laws.{LinkedLoads, LinkedFollows}
 use Rattle.whopr_top.specs.Reads.{reads_of, AreHeld, IsOverLimit}
 use Rattle.whopr_top.specs.Lines.{line, text_line, object_line, outcome_line, limit_line, batch_bytes_line}
-use Rattle.whopr_top.specs.Judgements.{File, Judgement, Refuses, Gives, Judges, JudgesImage, JudgesMerged, JudgesResolved, JudgesLink, JudgesText, JudgesRun, JudgesOnly, job_files, only_job, job_program, standing_by, lgen_by, show_by, run_by, data_of, objects_from, unresolved, resolve_by, within_batch}
+use Rattle.whopr_top.specs.Judgements.{File, Judgement, Refuses, Gives, Judges, JudgesImage, JudgesMerged, JudgesResolved, JudgesLink, JudgesText, JudgesRun, JudgesOnly, only_job, job_program, standing_by, lgen_by, show_by, run_by, data_of, objects_from, unresolved, resolve_by, within_batch}
+use Rattle.job_links.specs.Reads.{reads_of as job_files}
 use Rattle.whopr_top.specs.Compiling.{IsCompiled}
 use Rattle.whopr_top.specs.Outputs.{IsJudged, IsRefused, IsDone, IsCutShort, WritesAll, CutsShort, Faithful, IsFaithful, Refused, IsTooLarge, IsValid}
 use Rattle.whopr_top.specs.Answers.{Exactly, IsLimitLine, file_bytes_line, is_status, is_early}
@@ -104,13 +105,13 @@ alike (Resolve output objects) contents a b h k = alike_to a b (within_batch con
 alike command contents a b h k = absurd h
 
 -- the same of what is held
-held_alike : (limit : ℕ) (held : Contents) (command : Spoken) (cs ds : List (List ℕ)) (a b : Judgement) → AreHeld limit held (reads_of limit held command) cs
-    → AreHeld limit held (reads_of limit held command) ds → Judges command cs a → Judges command ds b → Alike a b
+held_alike : (limit : ℕ) (held : Contents) (command : Spoken) (cs ds : List (List ℕ)) (a b : Judgement) → AreHeld limit held (reads_of held command) cs
+    → AreHeld limit held (reads_of held command) ds → Judges command cs a → Judges command ds b → Alike a b
 held_alike limit held command cs ds a b read other h k =
-    alike command cs a b h (subst (λ (c : List (List ℕ)). Judges command c b) (sym (same_contents limit held (reads_of limit held command) cs ds read other)) k)
+    alike command cs a b h (subst (λ (c : List (List ℕ)). Judges command c b) (sym (same_contents limit held (reads_of held command) cs ds read other)) k)
 
 -- a command that is refused with a status is refused with no other
-exactly_refused : (limit : ℕ) (held : Contents) (command : Spoken) (cs : List (List ℕ)) (s n : ℕ) (x : List ℕ) → AreHeld limit held (reads_of limit held command) cs
+exactly_refused : (limit : ℕ) (held : Contents) (command : Spoken) (cs : List (List ℕ)) (s n : ℕ) (x : List ℕ) → AreHeld limit held (reads_of held command) cs
     → Judges command cs (Refuses s x) → Exactly n s (Refused n limit held (Some command))
 exactly_refused limit held command cs s n x read judged = record {
   only = λ is. (x, record { contents = cs; read = read; judged = subst (λ (n : ℕ). Judges command cs (Refuses n x)) is judged });
@@ -118,7 +119,7 @@ exactly_refused limit held command cs s n x read judged = record {
 }
 
 -- a command that gives something is not refused
-exactly_other : (limit : ℕ) (held : Contents) (command : Spoken) (cs : List (List ℕ)) (s n : ℕ) (w : List File) (x : List ℕ) → s ≢ n → AreHeld limit held (reads_of limit held command) cs
+exactly_other : (limit : ℕ) (held : Contents) (command : Spoken) (cs : List (List ℕ)) (s n : ℕ) (w : List File) (x : List ℕ) → s ≢ n → AreHeld limit held (reads_of held command) cs
     → Judges command cs (Gives w x) → Exactly n s (Refused n limit held (Some command))
 exactly_other limit held command cs s n w x differs read judged = record {
   only = λ is. absurd (differs is);
@@ -135,26 +136,26 @@ not_over limit held (name ∷ names) [] read over = absurd read
 not_over limit held (name ∷ names) (c ∷ cs) read (inl long) = not_long limit (held name) c read.0 read.1 long
 not_over limit held (name ∷ names) (c ∷ cs) read (inr more) = not_over limit held names cs read.2 more.1
 
-too_large : (limit : ℕ) (held : Contents) (command : Spoken) (cs : List (List ℕ)) (A B : Type 0) → AreHeld limit held (reads_of limit held command) cs
+too_large : (limit : ℕ) (held : Contents) (command : Spoken) (cs : List (List ℕ)) (A B : Type 0) → AreHeld limit held (reads_of held command) cs
     → IsTooLarge limit held (Some command) → (Refused 4 limit held (Some command) → A ⊎ B) → A ⊎ B
-too_large limit held command cs A B read (inl over) or = absurd (not_over limit held (reads_of limit held command) cs read over)
+too_large limit held command cs A B read (inl over) or = absurd (not_over limit held (reads_of held command) cs read over)
 too_large limit held command cs A B read (inr refused) or = or refused
 
 -- a command that is refused with a status is too large exactly where that is 4
-exactly_limited : (limit : ℕ) (held : Contents) (command : Spoken) (cs : List (List ℕ)) (s : ℕ) (x : List ℕ) → AreHeld limit held (reads_of limit held command) cs
+exactly_limited : (limit : ℕ) (held : Contents) (command : Spoken) (cs : List (List ℕ)) (s : ℕ) (x : List ℕ) → AreHeld limit held (reads_of held command) cs
     → Judges command cs (Refuses s x) → Exactly 4 s (IsTooLarge limit held (Some command))
 exactly_limited limit held command cs s x read judged =
     let exact = exactly_refused limit held command cs s 4 x read judged in
     record { only = λ is. inr (exact.only is); always = λ large. too_large limit held command cs (s ≡ 4) (s ≡ 7) read large exact.always }
 
 -- a command that gives something is not too large
-exactly_within : (limit : ℕ) (held : Contents) (command : Spoken) (cs : List (List ℕ)) (s : ℕ) (w : List File) (x : List ℕ) → s ≢ 4 → AreHeld limit held (reads_of limit held command) cs
+exactly_within : (limit : ℕ) (held : Contents) (command : Spoken) (cs : List (List ℕ)) (s : ℕ) (w : List File) (x : List ℕ) → s ≢ 4 → AreHeld limit held (reads_of held command) cs
     → Judges command cs (Gives w x) → Exactly 4 s (IsTooLarge limit held (Some command))
 exactly_within limit held command cs s w x differs read judged =
     let exact = exactly_other limit held command cs s 4 w x differs read judged in
     record { only = λ is. absurd (differs is); always = λ large. too_large limit held command cs (s ≡ 4) (s ≡ 7) read large exact.always }
 
-held_refused : (limit : ℕ) (held : Contents) (command : Spoken) (cs : List (List ℕ)) (s : ℕ) (x : List ℕ) → AreHeld limit held (reads_of limit held command) cs
+held_refused : (limit : ℕ) (held : Contents) (command : Spoken) (cs : List (List ℕ)) (s : ℕ) (x : List ℕ) → AreHeld limit held (reads_of held command) cs
     → Judges command cs (Refuses s x) → IsValid limit held (Some command) → ⊥
 held_refused limit held command cs s x read judged valid =
     held_alike limit held command cs valid.2.contents (Refuses s x) (Gives valid.0 valid.1) read valid.2.read judged valid.2.judged
@@ -259,10 +260,10 @@ refused_by limit command old new before now s x not_0 not_6 refuses =
 
 -- by bytes that do not depend on what is held
 pub refused : (limit : ℕ) (command : Spoken) (old new : Option Contents) (before now s : ℕ) (x : List ℕ) (cs : List (List ℕ)) → s ≢ 0 → s ≢ 6
-    → IfSome old (λ held. AreHeld limit held (reads_of limit held command) cs) → Judges command cs (Refuses s x) → Judged limit (Some command) old new before now s x
+    → IfSome old (λ held. AreHeld limit held (reads_of held command) cs) → Judges command cs (Refuses s x) → Judged limit (Some command) old new before now s x
 refused limit command old new before now s x cs not_0 not_6 read judged =
     refused_by limit command old new before now s x not_0 not_6
-    (told_map (λ held. AreHeld limit held (reads_of limit held command) cs) (λ held. IsRefused limit command held s x) old (λ held h. record { contents = cs; read = h; judged = judged }) read)
+    (told_map (λ held. AreHeld limit held (reads_of held command) cs) (λ held. IsRefused limit command held s x) old (λ held h. record { contents = cs; read = h; judged = judged }) read)
 
 pub done_by : (limit : ℕ) (command : Spoken) (old new : Option Contents) (before now : ℕ) (w : List File) (x : List ℕ)
     → IfSome old (λ held. IsJudged limit command held w x) → WhereTold old new (WritesAll w) → WhereTold old new (Faithful (Some command))
@@ -289,15 +290,15 @@ done_by limit command old new before now w x gives writes follows =
     }
 
 pub done : (limit : ℕ) (command : Spoken) (old between new : Option Contents) (before now : ℕ) (w : List File) (x : List ℕ) (cs : List (List ℕ)) → between ≡ old
-    → IfSome old (λ held. AreHeld limit held (reads_of limit held command) cs) → Judges command cs (Gives w x) → WhereTold between new (WritesAll w)
-    → ((held then : Contents) → AreHeld limit held (reads_of limit held command) cs → WritesAll w held then → Faithful (Some command) held then)
+    → IfSome old (λ held. AreHeld limit held (reads_of held command) cs) → Judges command cs (Gives w x) → WhereTold between new (WritesAll w)
+    → ((held then : Contents) → AreHeld limit held (reads_of held command) cs → WritesAll w held then → Faithful (Some command) held then)
     → Judged limit (Some command) old new before now 0 x
 done limit command old between new before now w x cs same read judged writes follows =
     let then = subst (λ (o : Option Contents). WhereTold o new (WritesAll w)) same writes in
     done_by limit command old new before now w x
-    (told_map (λ held. AreHeld limit held (reads_of limit held command) cs) (λ held. IsJudged limit command held w x) old (λ held h. record { contents = cs; read = h; judged = judged }) read)
+    (told_map (λ held. AreHeld limit held (reads_of held command) cs) (λ held. IsJudged limit command held w x) old (λ held h. record { contents = cs; read = h; judged = judged }) read)
     then
-    (told_with (λ held. AreHeld limit held (reads_of limit held command) cs) (WritesAll w) (Faithful (Some command)) old new (λ held then h write. follows held then h write) read then)
+    (told_with (λ held. AreHeld limit held (reads_of held command) cs) (WritesAll w) (Faithful (Some command)) old new (λ held then h write. follows held then h write) read then)
 
 pub cut_short_by : (limit : ℕ) (command : Spoken) (old new : Option Contents) (before now : ℕ) (w : List File) (x y : List ℕ)
     → IfSome old (λ held. IsJudged limit command held w x) → WhereTold old new (CutsShort w) → Rose before now → Judged limit (Some command) old new before now 6 y
@@ -323,11 +324,11 @@ cut_short_by limit command old new before now w x y gives writes rose =
     }
 
 pub cut_short : (limit : ℕ) (command : Spoken) (old between new : Option Contents) (before now : ℕ) (w : List File) (x y : List ℕ) (cs : List (List ℕ)) → between ≡ old
-    → IfSome old (λ held. AreHeld limit held (reads_of limit held command) cs) → Judges command cs (Gives w x) → WhereTold between new (CutsShort w)
+    → IfSome old (λ held. AreHeld limit held (reads_of held command) cs) → Judges command cs (Gives w x) → WhereTold between new (CutsShort w)
     → Rose before now → Judged limit (Some command) old new before now 6 y
 cut_short limit command old between new before now w x y cs same read judged writes rose =
     cut_short_by limit command old new before now w x y
-    (told_map (λ held. AreHeld limit held (reads_of limit held command) cs) (λ held. IsJudged limit command held w x) old (λ held h. record { contents = cs; read = h; judged = judged }) read)
+    (told_map (λ held. AreHeld limit held (reads_of held command) cs) (λ held. IsJudged limit command held w x) old (λ held h. record { contents = cs; read = h; judged = judged }) read)
     (subst (λ (o : Option Contents). WhereTold o new (CutsShort w)) same writes)
     rose
 
@@ -459,17 +460,17 @@ unspoken limit command old new before now x none =
 
 -- ---- files that are read one after the other
 
-long_not_refused : (limit : ℕ) (held : Contents) (command : Spoken) (n : ℕ) → 4 ≢ n → IsOverLimit limit held (reads_of limit held command) → Exactly n 4 (Refused n limit held (Some command))
+long_not_refused : (limit : ℕ) (held : Contents) (command : Spoken) (n : ℕ) → 4 ≢ n → IsOverLimit limit held (reads_of held command) → Exactly n 4 (Refused n limit held (Some command))
 long_not_refused limit held command n differs over = record {
   only = λ is. absurd (differs is);
-  always = λ refused. absurd (not_over limit held (reads_of limit held command) refused.1.contents refused.1.read over);
+  always = λ refused. absurd (not_over limit held (reads_of held command) refused.1.contents refused.1.read over);
 }
 
 -- a file that is too long refuses the command
-pub too_long : (limit : ℕ) (command : Spoken) (old new : Option Contents) (before now : ℕ) → IfSome old (λ held. IsOverLimit limit held (reads_of limit held command))
+pub too_long : (limit : ℕ) (command : Spoken) (old new : Option Contents) (before now : ℕ) → IfSome old (λ held. IsOverLimit limit held (reads_of held command))
     → Judged limit (Some command) old new before now 4 file_bytes_line
 too_long limit command old new before now over =
-    let at = λ (held : Contents) (told : old ≡ Some held). told_at (λ held. IsOverLimit limit held (reads_of limit held command)) old held over told in
+    let at = λ (held : Contents) (told : old ≡ Some held). told_at (λ held. IsOverLimit limit held (reads_of held command)) old held over told in
     let other = λ (n : ℕ) (differs : 4 ≢ n) (held : Contents) (told : old ≡ Some held). long_not_refused limit held command n differs (at held told) in
     record {
       object = λ held told _. other 3 (λ is. grind (arith, is)) held told;
@@ -478,33 +479,33 @@ too_long limit command old new before now over =
       spelled = λ held told _. other 9 (λ is. grind (arith, is)) held told;
       jobs = λ held told _. other 10 (λ is. grind (arith, is)) held told;
       image = λ held told _. other 11 (λ is. grind (arith, is)) held told;
-      complete = λ held told valid _. absurd (not_over limit held (reads_of limit held command) valid.2.contents valid.2.read (at held told));
+      complete = λ held told valid _. absurd (not_over limit held (reads_of held command) valid.2.contents valid.2.read (at held told));
       done = λ is. grind (arith, is);
       follows = λ is. grind (arith, is);
       cut_short = λ is. grind (arith, is);
       done_line = λ is. grind (arith, is);
-      large_line = λ _. told_map (λ held. IsOverLimit limit held (reads_of limit held command)) (λ held. IsLimitLine limit held command file_bytes_line) old (λ held h. inl (h, refl)) over;
+      large_line = λ _. told_map (λ held. IsOverLimit limit held (reads_of held command)) (λ held. IsLimitLine limit held command file_bytes_line) old (λ held h. inl (h, refl)) over;
       refused_line = λ is. grind (arith, is);
     }
 
 -- a command whose files were all read
 pub attempted : (limit : ℕ) (command : Spoken) (old new : Option Contents) (s : ℕ) (cs : List (List ℕ)) → IsTrue (is_status s) → s ≢ 2 → s ≢ 7
-    → IfSome old (λ held. AreHeld limit held (reads_of limit held command) cs) → (IsTrue (is_early s) → new ≡ old) → Attempt limit (Some command) old new s
+    → IfSome old (λ held. AreHeld limit held (reads_of held command) cs) → (IsTrue (is_early s) → new ≡ old) → Attempt limit (Some command) old new s
 attempted limit command old new s cs status not_2 not_7 read early = record {
   answers = status;
   words = record { only = λ is. absurd (not_2 is); always = λ none. grind (arith, none) };
-  absent = λ held told absent. absurd (held_not_absent limit held (reads_of limit held command) cs (told_at (λ held. AreHeld limit held (reads_of limit held command) cs) old held read told) absent);
+  absent = λ held told absent. absurd (held_not_absent limit held (reads_of held command) cs (told_at (λ held. AreHeld limit held (reads_of held command) cs) old held read told) absent);
   early = early;
   memory = λ is. absurd (not_7 is);
 }
 
 -- a command one of whose files is too long
-pub attempted_long : (limit : ℕ) (command : Spoken) (old new : Option Contents) → new ≡ old → IfSome old (λ held. IsOverLimit limit held (reads_of limit held command))
+pub attempted_long : (limit : ℕ) (command : Spoken) (old new : Option Contents) → new ≡ old → IfSome old (λ held. IsOverLimit limit held (reads_of held command))
     → Attempt limit (Some command) old new 4
 attempted_long limit command old new same over = record {
   answers = refl;
   words = record { only = λ is. grind (arith, is); always = λ none. grind (arith, none) };
-  absent = λ held told absent. absurd (over_not_absent limit held (reads_of limit held command) (told_at (λ held. IsOverLimit limit held (reads_of limit held command)) old held over told) absent);
+  absent = λ held told absent. absurd (over_not_absent limit held (reads_of held command) (told_at (λ held. IsOverLimit limit held (reads_of held command)) old held over told) absent);
   early = λ _. same;
   memory = λ _. same;
 }

@@ -20,7 +20,8 @@ use Rattle.whopr_top.specs.declared.refusal.Refusal.{Refusal}
 use Rattle.whopr_top.specs.declared.refusal.Refusal.TheVariants.{NoCommand, Object, TooLong, TooMuch, Limit, Read, ReadOf, Write, Memory, Resolution, Text, Jobs, Image}
 use Rattle.whopr_top.specs.Reads.{AreHeld, IsOverLimit, IsReached, IsAbsent, held_under, input_of, job_reads, only_reads, text_reads, reads_of}
 use Rattle.whopr_top.specs.Lines.{standing_line, spaced, jobs_line}
-use Rattle.whopr_top.specs.Judgements.{Judgement, Refuses, Gives, Judges, JudgesRun, JudgesJob, JudgesOnly, job_files, only_of, only_job, job_program, standing_by}
+use Rattle.whopr_top.specs.Judgements.{Judgement, Refuses, Gives, Judges, JudgesRun, JudgesJob, JudgesOnly, only_of, only_job, job_program, standing_by}
+use Rattle.job_links.specs.Reads.{reads_of as job_files}
 use Rattle.whopr_top.specs.Refusal.{status_of, refusal_line}
 use Rattle.whopr_top.specs.Interpreting.{Answers, ComesTo, IsStop}
 use Rattle.whopr_top.specs.Outputs.{IsRefused, IsJudged, Faithful}
@@ -180,16 +181,16 @@ program_stops limit old input output steps job cs before now (Image offset) read
 -- ---- the only job of a job file that was read
 
 text_reads_are : (limit : ℕ) (held : Contents) (jobs input output text : List ℕ) (steps : ℕ) (r : Result Job Judgement) → held jobs ≡ Some text → only_job (jobs_in text) ≡ r
-    → reads_of limit held (Interp jobs steps input output) ≡ jobs ∷ only_reads held input r
+    → reads_of held (Interp jobs steps input output) ≡ jobs ∷ only_reads held input r
 text_reads_are limit held jobs input output text steps r has is =
     ap (λ o. jobs ∷ text_reads held input o) has ∙ ap (λ x. jobs ∷ only_reads held input x) is
 
 -- the text has another form
 pub no_job : (limit : ℕ) (old : Option Contents) (jobs input output text : List ℕ) (steps s : ℕ) (x : List ℕ) → IfSome old (λ held. held jobs ≡ Some text) → length text ≤ limit
     → only_job (jobs_in text) ≡ Err (Refuses s x)
-    → IfSome old (λ held. ComesTo limit held (reads_of limit held (Interp jobs steps input output)) (Judges (Interp jobs steps input output)) (Refuses s x))
+    → IfSome old (λ held. ComesTo limit held (reads_of held (Interp jobs steps input output)) (Judges (Interp jobs steps input output)) (Refuses s x))
 no_job limit old jobs input output text steps s x has within is =
-    told_map (λ held. held jobs ≡ Some text) (λ held. ComesTo limit held (reads_of limit held (Interp jobs steps input output)) (Judges (Interp jobs steps input output)) (Refuses s x)) old
+    told_map (λ held. held jobs ≡ Some text) (λ held. ComesTo limit held (reads_of held (Interp jobs steps input output)) (Judges (Interp jobs steps input output)) (Refuses s x)) old
     (λ held here. record {
       contents = text ∷ [];
       read = subst (λ (ns : List (List ℕ)). AreHeld limit held ns (text ∷ [])) (sym (text_reads_are limit held jobs input output text steps (Err (Refuses s x)) here is)) (here, within, tt);
@@ -199,7 +200,7 @@ no_job limit old jobs input output text steps s x has within is =
 
 only_comes : (limit : ℕ) (held : Contents) (jobs input output text : List ℕ) (steps : ℕ) (job : Job) (judgement : Judgement) → held jobs ≡ Some text → length text ≤ limit
     → only_job (jobs_in text) ≡ Ok job → ComesTo limit held (job_reads held input job) (JudgesJob output steps job) judgement
-    → ComesTo limit held (reads_of limit held (Interp jobs steps input output)) (Judges (Interp jobs steps input output)) judgement
+    → ComesTo limit held (reads_of held (Interp jobs steps input output)) (Judges (Interp jobs steps input output)) judgement
 only_comes limit held jobs input output text steps job judgement has within is comes = record {
   contents = text ∷ comes.contents;
   read = subst (λ (ns : List (List ℕ)). AreHeld limit held ns (text ∷ comes.contents)) (sym (text_reads_are limit held jobs input output text steps (Ok job) has is)) (has, within, comes.read);
@@ -209,38 +210,38 @@ only_comes limit held jobs input output text steps job judgement has within is c
 pub told_comes : (limit : ℕ) (old between : Option Contents) (jobs input output text : List ℕ) (steps : ℕ) (job : Job) (judgement : Judgement) → between ≡ old
     → IfSome old (λ held. held jobs ≡ Some text) → length text ≤ limit → only_job (jobs_in text) ≡ Ok job
     → IfSome between (λ held. ComesTo limit held (job_reads held input job) (JudgesJob output steps job) judgement)
-    → IfSome old (λ held. ComesTo limit held (reads_of limit held (Interp jobs steps input output)) (Judges (Interp jobs steps input output)) judgement)
+    → IfSome old (λ held. ComesTo limit held (reads_of held (Interp jobs steps input output)) (Judges (Interp jobs steps input output)) judgement)
 told_comes limit old between jobs input output text steps job judgement same has within is =
     told_two (λ held. held jobs ≡ Some text) (λ held. ComesTo limit held (job_reads held input job) (JudgesJob output steps job) judgement)
-    (λ held. ComesTo limit held (reads_of limit held (Interp jobs steps input output)) (Judges (Interp jobs steps input output)) judgement) old between same
+    (λ held. ComesTo limit held (reads_of held (Interp jobs steps input output)) (Judges (Interp jobs steps input output)) judgement) old between same
     (λ held here comes. only_comes limit held jobs input output text steps job judgement here within is comes) has
 
 only_over : (limit : ℕ) (old between : Option Contents) (jobs input output text : List ℕ) (steps : ℕ) (job : Job) → between ≡ old
     → IfSome old (λ held. held jobs ≡ Some text) → length text ≤ limit → only_job (jobs_in text) ≡ Ok job → IfSome between (λ held. IsOverLimit limit held (job_reads held input job))
-    → IfSome old (λ held. IsOverLimit limit held (reads_of limit held (Interp jobs steps input output)))
+    → IfSome old (λ held. IsOverLimit limit held (reads_of held (Interp jobs steps input output)))
 only_over limit old between jobs input output text steps job same has within is =
     told_two (λ held. held jobs ≡ Some text) (λ held. IsOverLimit limit held (job_reads held input job))
-    (λ held. IsOverLimit limit held (reads_of limit held (Interp jobs steps input output))) old between same
+    (λ held. IsOverLimit limit held (reads_of held (Interp jobs steps input output))) old between same
     (λ held here over. subst (λ (ns : List (List ℕ)). IsOverLimit limit held ns) (sym (text_reads_are limit held jobs input output text steps (Ok job) here is))
     (inr (within_of limit (held jobs) text here within, over))) has
 
 only_reached : (limit : ℕ) (old between : Option Contents) (jobs input output text name : List ℕ) (steps : ℕ) (job : Job) → between ≡ old
     → IfSome old (λ held. held jobs ≡ Some text) → length text ≤ limit → only_job (jobs_in text) ≡ Ok job → IfSome between (λ held. IsReached limit held (job_reads held input job) name)
-    → IfSome old (λ held. IsReached limit held (reads_of limit held (Interp jobs steps input output)) name)
+    → IfSome old (λ held. IsReached limit held (reads_of held (Interp jobs steps input output)) name)
 only_reached limit old between jobs input output text name steps job same has within is =
     told_two (λ held. held jobs ≡ Some text) (λ held. IsReached limit held (job_reads held input job) name)
-    (λ held. IsReached limit held (reads_of limit held (Interp jobs steps input output)) name) old between same
+    (λ held. IsReached limit held (reads_of held (Interp jobs steps input output)) name) old between same
     (λ held here reached. subst (λ (ns : List (List ℕ)). IsReached limit held ns name) (sym (text_reads_are limit held jobs input output text steps (Ok job) here is))
     (inr (within_of limit (held jobs) text here within, reached))) has
 
 pub jobs_reached : (limit : ℕ) (old : Option Contents) (jobs input output : List ℕ) (steps : ℕ)
-    → IfSome old (λ held. IsReached limit held (reads_of limit held (Interp jobs steps input output)) jobs)
-jobs_reached limit old jobs input output steps = told_all (λ held. IsReached limit held (reads_of limit held (Interp jobs steps input output)) jobs) old (λ held. inl refl)
+    → IfSome old (λ held. IsReached limit held (reads_of held (Interp jobs steps input output)) jobs)
+jobs_reached limit old jobs input output steps = told_all (λ held. IsReached limit held (reads_of held (Interp jobs steps input output)) jobs) old (λ held. inl refl)
 
 pub jobs_over : (limit : ℕ) (old : Option Contents) (jobs input output : List ℕ) (steps : ℕ) → IfSome old (λ held. IsLonger limit (held jobs))
-    → IfSome old (λ held. IsOverLimit limit held (reads_of limit held (Interp jobs steps input output)))
+    → IfSome old (λ held. IsOverLimit limit held (reads_of held (Interp jobs steps input output)))
 jobs_over limit old jobs input output steps =
-    told_map (λ held. IsLonger limit (held jobs)) (λ held. IsOverLimit limit held (reads_of limit held (Interp jobs steps input output))) old (λ held long. inl long)
+    told_map (λ held. IsLonger limit (held jobs)) (λ held. IsOverLimit limit held (reads_of held (Interp jobs steps input output))) old (λ held long. inl long)
 
 rose_since : (before middle now : ℕ) → before ≤ middle → Rose middle now → Rose before now
 rose_since before middle now le rose = omega (arith, le, rose)
@@ -249,7 +250,7 @@ rose_since before middle now le rose = omega (arith, le, rose)
 pub job_stops : (limit : ℕ) (old between : Option Contents) (jobs input output text : List ℕ) (steps : ℕ) (job : Job) (before middle now : ℕ) (refusal : Refusal) → between ≡ old
     → before ≤ middle → IfSome old (λ held. held jobs ≡ Some text) → length text ≤ limit → only_job (jobs_in text) ≡ Ok job
     → IsStop limit (λ held. job_reads held input job) (JudgesJob output steps job) between middle now refusal
-    → IsStop limit (λ held. reads_of limit held (Interp jobs steps input output)) (Judges (Interp jobs steps input output)) old before now refusal
+    → IsStop limit (λ held. reads_of held (Interp jobs steps input output)) (Judges (Interp jobs steps input output)) old before now refusal
 job_stops limit old between jobs input output text steps job before middle now NoCommand same le has within is stop = absurd stop
 job_stops limit old between jobs input output text steps job before middle now (Object number fault) same le has within is stop =
     told_comes limit old between jobs input output text steps job (Refuses (status_of (Object number fault)) (refusal_line (Object number fault))) same has within is stop
@@ -287,7 +288,7 @@ pub only_stands : (limit : ℕ) (old between : Option Contents) (jobs input text
     → IfSome old (λ held. held jobs ≡ Some text) → length text ≤ limit → only_job (jobs_in text) ≡ Ok job
     → IfOk result (λ r. (output : List ℕ) → IfSome between (λ held. ComesTo limit held (job_reads held input job) (JudgesJob output steps job) (Gives ((output, r.1.items) ∷ []) r.0.items)))
     → IfOk result (λ r. (output : List ℕ) → IfSome old (λ held.
-    ComesTo limit held (reads_of limit held (Interp jobs steps input output)) (Judges (Interp jobs steps input output)) (Gives ((output, r.1.items) ∷ []) r.0.items)))
+    ComesTo limit held (reads_of held (Interp jobs steps input output)) (Judges (Interp jobs steps input output)) (Gives ((output, r.1.items) ∷ []) r.0.items)))
 only_stands limit old between jobs input text steps job (Ok r) same has within is comes =
     λ output. told_comes limit old between jobs input output text steps job (Gives ((output, r.1.items) ∷ []) r.0.items) same has within is (comes output)
 only_stands limit old between jobs input text steps job (Err e) same has within is comes = tt
@@ -295,7 +296,7 @@ only_stands limit old between jobs input text steps job (Err e) same has within 
 pub only_stops : (limit : ℕ) (old between : Option Contents) (jobs input text : List ℕ) (steps : ℕ) (job : Job) (before middle now : ℕ) (result : Result (Vec ℕ Global × Vec ℕ Global) Refusal)
     → between ≡ old → before ≤ middle → IfSome old (λ held. held jobs ≡ Some text) → length text ≤ limit → only_job (jobs_in text) ≡ Ok job
     → IfErr result (λ refusal. (output : List ℕ) → IsStop limit (λ held. job_reads held input job) (JudgesJob output steps job) between middle now refusal)
-    → IfErr result (λ refusal. (output : List ℕ) → IsStop limit (λ held. reads_of limit held (Interp jobs steps input output)) (Judges (Interp jobs steps input output)) old before now refusal)
+    → IfErr result (λ refusal. (output : List ℕ) → IsStop limit (λ held. reads_of held (Interp jobs steps input output)) (Judges (Interp jobs steps input output)) old before now refusal)
 only_stops limit old between jobs input text steps job before middle now (Ok r) same le has within is stops = tt
 only_stops limit old between jobs input text steps job before middle now (Err refusal) same le has within is stops =
     λ output. job_stops limit old between jobs input output text steps job before middle now refusal same le has within is (stops output)
@@ -303,7 +304,7 @@ only_stops limit old between jobs input text steps job before middle now (Err re
 -- ---- what becomes of a command that is refused before its first write
 
 attempt_of : (limit : ℕ) (command : Spoken) (old new : Option Contents) (s : ℕ) → IsTrue (is_status s) → s ≢ 2
-    → ForSome old (λ held. IsAbsent limit held (reads_of limit held command) → (s ≡ 5) ⊎ (s ≡ 7)) → new ≡ old → Attempt limit (Some command) old new s
+    → ForSome old (λ held. IsAbsent limit held (reads_of held command) → (s ≡ 5) ⊎ (s ≡ 7)) → new ≡ old → Attempt limit (Some command) old new s
 attempt_of limit command old new s status not_2 absent same = record {
   answers = status;
   words = record { only = λ is. absurd (not_2 is); always = λ none. grind (arith, none) };
@@ -313,20 +314,20 @@ attempt_of limit command old new s status not_2 absent same = record {
 }
 
 attempt_at : (limit : ℕ) (command : Spoken) (old new : Option Contents) (s : ℕ) (x : List ℕ) → IsTrue (is_status s) → s ≢ 2 → new ≡ old
-    → IfSome old (λ held. ComesTo limit held (reads_of limit held command) (Judges command) (Refuses s x)) → Attempt limit (Some command) old new s
+    → IfSome old (λ held. ComesTo limit held (reads_of held command) (Judges command) (Refuses s x)) → Attempt limit (Some command) old new s
 attempt_at limit command old new s x status not_2 same comes =
-    let at = λ (held : Contents) (told : old ≡ Some held). told_at (λ held. ComesTo limit held (reads_of limit held command) (Judges command) (Refuses s x)) old held comes told in
+    let at = λ (held : Contents) (told : old ≡ Some held). told_at (λ held. ComesTo limit held (reads_of held command) (Judges command) (Refuses s x)) old held comes told in
     attempt_of limit command old new s status not_2
-    (λ held told absent. absurd (held_not_absent limit held (reads_of limit held command) (at held told).contents (at held told).read absent)) same
+    (λ held told absent. absurd (held_not_absent limit held (reads_of held command) (at held told).contents (at held told).read absent)) same
 
 pub stopped_attempt : (limit : ℕ) (command : Spoken) (old new : Option Contents) (before now : ℕ) (refusal : Refusal) → new ≡ old
-    → IsStop limit (λ held. reads_of limit held command) (Judges command) old before now refusal → Attempt limit (Some command) old new (status_of refusal)
+    → IsStop limit (λ held. reads_of held command) (Judges command) old before now refusal → Attempt limit (Some command) old new (status_of refusal)
 stopped_attempt limit command old new before now NoCommand same stop = absurd stop
 stopped_attempt limit command old new before now (Object number fault) same stop = attempt_at limit command old new (status_of (Object number fault)) (refusal_line (Object number fault)) refl (λ is. grind (arith, is)) same stop
 stopped_attempt limit command old new before now TooLong same stop =
     attempt_of limit command old new 4 refl (λ is. grind (arith, is))
-    (λ held told absent. absurd (over_not_absent limit held (reads_of limit held command)
-    (told_at (λ held. IsOverLimit limit held (reads_of limit held command)) old held stop told) absent)) same
+    (λ held told absent. absurd (over_not_absent limit held (reads_of held command)
+    (told_at (λ held. IsOverLimit limit held (reads_of held command)) old held stop told) absent)) same
 stopped_attempt limit command old new before now TooMuch same stop = attempt_at limit command old new (status_of TooMuch) (refusal_line TooMuch) refl (λ is. grind (arith, is)) same stop
 stopped_attempt limit command old new before now (Limit passed) same stop = attempt_at limit command old new (status_of (Limit passed)) (refusal_line (Limit passed)) refl (λ is. grind (arith, is)) same stop
 stopped_attempt limit command old new before now (Read name) same stop = attempt_of limit command old new 5 refl (λ is. grind (arith, is)) (λ held told absent. inl refl) same
@@ -349,7 +350,7 @@ counted_read : (before now : ℕ) → Rose before now → Counted before now 5
 counted_read before now rose = record { read = λ _. rose; write = λ is. grind (arith, is); counting = rose }
 
 pub stopped_counted : (limit : ℕ) (command : Spoken) (old : Option Contents) (before now : ℕ) (refusal : Refusal) → before ≤ now
-    → IsStop limit (λ held. reads_of limit held command) (Judges command) old before now refusal → Counted before now (status_of refusal)
+    → IsStop limit (λ held. reads_of held command) (Judges command) old before now refusal → Counted before now (status_of refusal)
 stopped_counted limit command old before now NoCommand le stop = absurd stop
 stopped_counted limit command old before now (Object number fault) le stop = counted_at (status_of (Object number fault)) before now (λ is. grind (arith, is)) (λ is. grind (arith, is)) refl le
 stopped_counted limit command old before now TooLong le stop = counted_at (status_of TooLong) before now (λ is. grind (arith, is)) (λ is. grind (arith, is)) refl le
@@ -365,7 +366,7 @@ stopped_counted limit command old before now (Jobs number) le stop = counted_at 
 stopped_counted limit command old before now (Image offset) le stop = counted_at (status_of (Image offset)) before now (λ is. grind (arith, is)) (λ is. grind (arith, is)) refl le
 
 pub stopped_lined : (limit : ℕ) (command : Spoken) (old : Option Contents) (before now : ℕ) (refusal : Refusal)
-    → IsStop limit (λ held. reads_of limit held command) (Judges command) old before now refusal → Lined limit (Some command) old (status_of refusal) (refusal_line refusal)
+    → IsStop limit (λ held. reads_of held command) (Judges command) old before now refusal → Lined limit (Some command) old (status_of refusal) (refusal_line refusal)
 stopped_lined limit command old before now NoCommand stop = absurd stop
 stopped_lined limit command old before now (Object number fault) stop = record {
   quiet = λ is. grind (arith, is);
@@ -524,14 +525,14 @@ stopped_lined limit command old before now (Image offset) stop = record {
 }
 
 judged_stop : (limit : ℕ) (command : Spoken) (old new : Option Contents) (before now s : ℕ) (x : List ℕ) → s ≢ 0 → s ≢ 6
-    → IfSome old (λ held. ComesTo limit held (reads_of limit held command) (Judges command) (Refuses s x)) → Judged limit (Some command) old new before now s x
+    → IfSome old (λ held. ComesTo limit held (reads_of held command) (Judges command) (Refuses s x)) → Judged limit (Some command) old new before now s x
 judged_stop limit command old new before now s x not_0 not_6 comes =
     refused_by limit command old new before now s x not_0 not_6
-    (told_map (λ held. ComesTo limit held (reads_of limit held command) (Judges command) (Refuses s x)) (λ held. IsRefused limit command held s x) old
+    (told_map (λ held. ComesTo limit held (reads_of held command) (Judges command) (Refuses s x)) (λ held. IsRefused limit command held s x) old
     (λ held h. record { contents = h.contents; read = h.read; judged = h.judged }) comes)
 
 pub stopped_judged : (limit : ℕ) (command : Spoken) (old new : Option Contents) (before now : ℕ) (refusal : Refusal)
-    → IsStop limit (λ held. reads_of limit held command) (Judges command) old before now refusal
+    → IsStop limit (λ held. reads_of held command) (Judges command) old before now refusal
     → Judged limit (Some command) old new before now (status_of refusal) (refusal_line refusal)
 stopped_judged limit command old new before now NoCommand stop = absurd stop
 stopped_judged limit command old new before now (Object number fault) stop = judged_stop limit command old new before now (status_of (Object number fault)) (refusal_line (Object number fault)) (λ is. grind (arith, is)) (λ is. grind (arith, is)) stop
@@ -550,29 +551,29 @@ stopped_judged limit command old new before now (Image offset) stop = judged_sto
 -- ---- a command that comes to what is written and printed
 
 pub gives_of : (limit : ℕ) (old : Option Contents) (command : Spoken) (output written text : List ℕ)
-    → IfSome old (λ held. ComesTo limit held (reads_of limit held command) (Judges command) (Gives ((output, written) ∷ []) text))
+    → IfSome old (λ held. ComesTo limit held (reads_of held command) (Judges command) (Gives ((output, written) ∷ []) text))
     → IfSome old (λ held. IsJudged limit command held ((output, written) ∷ []) text)
 gives_of limit old command output written text =
-    told_map (λ held. ComesTo limit held (reads_of limit held command) (Judges command) (Gives ((output, written) ∷ []) text))
+    told_map (λ held. ComesTo limit held (reads_of held command) (Judges command) (Gives ((output, written) ∷ []) text))
     (λ held. IsJudged limit command held ((output, written) ∷ []) text) old (λ held h. record { contents = h.contents; read = h.read; judged = h.judged })
 
 -- its files were all read
 pub read_attempt : (limit : ℕ) (command : Spoken) (old new : Option Contents) (s : ℕ) (output written text : List ℕ) → IsTrue (is_status s) → s ≢ 2 → s ≢ 7
-    → (IsTrue (is_early s) → new ≡ old) → IfSome old (λ held. ComesTo limit held (reads_of limit held command) (Judges command) (Gives ((output, written) ∷ []) text))
+    → (IsTrue (is_early s) → new ≡ old) → IfSome old (λ held. ComesTo limit held (reads_of held command) (Judges command) (Gives ((output, written) ∷ []) text))
     → Attempt limit (Some command) old new s
 read_attempt limit command old new s output written text status not_2 not_7 early comes =
     let at = λ (held : Contents) (told : old ≡ Some held).
-    told_at (λ held. ComesTo limit held (reads_of limit held command) (Judges command) (Gives ((output, written) ∷ []) text)) old held comes told in
+    told_at (λ held. ComesTo limit held (reads_of held command) (Judges command) (Gives ((output, written) ∷ []) text)) old held comes told in
     record {
       answers = status;
       words = record { only = λ is. absurd (not_2 is); always = λ none. grind (arith, none) };
-      absent = λ held told absent. absurd (held_not_absent limit held (reads_of limit held command) (at held told).contents (at held told).read absent);
+      absent = λ held told absent. absurd (held_not_absent limit held (reads_of held command) (at held told).contents (at held told).read absent);
       early = early;
       memory = λ is. absurd (not_7 is);
     }
 
 pub run_done : (limit : ℕ) (command : Spoken) (old between new : Option Contents) (before now : ℕ) (output written text : List ℕ) → between ≡ old
-    → IfSome old (λ held. ComesTo limit held (reads_of limit held command) (Judges command) (Gives ((output, written) ∷ []) text))
+    → IfSome old (λ held. ComesTo limit held (reads_of held command) (Judges command) (Gives ((output, written) ∷ []) text))
     → WhereTold between new (Writes output written) → ((held then : Contents) → Faithful (Some command) held then) → Judged limit (Some command) old new before now 0 text
 run_done limit command old between new before now output written text same comes writes follows =
     let then = subst (λ (o : Option Contents). WhereTold o new (Writes output written)) same writes in
@@ -580,7 +581,7 @@ run_done limit command old between new before now output written text same comes
     (told_both (Writes output written) (Faithful (Some command)) old new (λ held now w. follows held now) then)
 
 pub run_cut_short : (limit : ℕ) (command : Spoken) (old between new : Option Contents) (before now : ℕ) (output written text line : List ℕ) → between ≡ old
-    → IfSome old (λ held. ComesTo limit held (reads_of limit held command) (Judges command) (Gives ((output, written) ∷ []) text))
+    → IfSome old (λ held. ComesTo limit held (reads_of held command) (Judges command) (Gives ((output, written) ∷ []) text))
     → WhereTold between new (WritesPrefix output written) → Rose before now → Judged limit (Some command) old new before now 6 line
 run_cut_short limit command old between new before now output written text line same comes writes rose =
     cut_short_by limit command old new before now ((output, written) ∷ []) text line (gives_of limit old command output written text comes)

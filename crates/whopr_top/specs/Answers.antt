@@ -55,7 +55,7 @@ file_bytes_line = line (codes "4 limit FileBytes 16777217 16777216")
 
 -- the line of what is too large, by what the command reads: a file, the objects together, or the program
 abbrev pub IsLimitLine : ℕ → Contents → Spoken → List ℕ → Type 0
-IsLimitLine limit held command text = (IsOverLimit limit held (reads_of limit held command) × (text ≡ file_bytes_line)) ⊎ IsRefused limit command held 4 text
+IsLimitLine limit held command text = (IsOverLimit limit held (reads_of held command) × (text ≡ file_bytes_line)) ⊎ IsRefused limit command held 4 text
 
 -- The text that goes with a status, by what the command reads, where that is told.
 pub record IsLine (limit : ℕ) (held : Option Contents) (command : Option Spoken) (status : ℕ) (text : List ℕ) : Type 0 where
@@ -66,7 +66,7 @@ pub record IsLine (limit : ℕ) (held : Option Contents) (command : Option Spoke
   pub object : status ≡ 3 → (number : ℕ) × (fault : ObjectFault) × (text ≡ object_line number fault)
   pub over : status ≡ 4 → (text ≡ file_bytes_line) ⊎ (text ≡ batch_bytes_line) ⊎ ((passed : LimitFault) × (text ≡ limit_line passed))
   pub limited : status ≡ 4 → IfSome held (λ files. IsSomeAnd command (λ c. IsLimitLine limit files c text))
-  pub read : status ≡ 5 → IsSomeAnd command (λ c. (name : List ℕ) × IfSome held (λ files. IsReached limit files (reads_of limit files c) name) × (text ≡ line (codes "5 read " ++ name)))
+  pub read : status ≡ 5 → IsSomeAnd command (λ c. (name : List ℕ) × IfSome held (λ files. IsReached limit files (reads_of files c) name) × (text ≡ line (codes "5 read " ++ name)))
   pub write : status ≡ 6 → IsSomeAnd command (λ c. (name : List ℕ) × MayWrite c name × (text ≡ line (codes "6 write " ++ name)))
   pub memory : status ≡ 7 → text ≡ line (codes "7 memory")
   pub resolution : status ≡ 8 → (kind : ResolutionKind) × (place : ResolutionPlace) × (text ≡ resolution_line kind place)

@@ -18,7 +18,7 @@ use Rattle.whopr_top.specs.Answers.{Exactly, is_status, is_early, is_judged, lin
 pub record Attempt (limit : ℕ) (command : Option Spoken) (old new : Option Contents) (status : ℕ) : Type 0 where
   pub answers : IsTrue (is_status status)
   pub words : Exactly 2 status (command ≡ None)
-  pub absent : ForSome old (λ held. IsSomeAnd command (λ c. IsAbsent limit held (reads_of limit held c)) → (status ≡ 5) ⊎ (status ≡ 7))
+  pub absent : ForSome old (λ held. IsSomeAnd command (λ c. IsAbsent limit held (reads_of held c)) → (status ≡ 5) ⊎ (status ≡ 7))
   pub early : IsTrue (is_early status) → new ≡ old
   pub memory : status ≡ 7 → new ≡ old
 
@@ -35,7 +35,7 @@ pub record Lined (limit : ℕ) (command : Option Spoken) (old : Option Contents)
   pub words : status ≡ 2 → text ≡ line (codes "2 words")
   pub object : status ≡ 3 → (number : ℕ) × (fault : ObjectFault) × (text ≡ object_line number fault)
   pub over : status ≡ 4 → (text ≡ file_bytes_line) ⊎ (text ≡ batch_bytes_line) ⊎ ((passed : LimitFault) × (text ≡ limit_line passed))
-  pub read : status ≡ 5 → IsSomeAnd command (λ c. (name : List ℕ) × IfSome old (λ files. IsReached limit files (reads_of limit files c) name) × (text ≡ line (codes "5 read " ++ name)))
+  pub read : status ≡ 5 → IsSomeAnd command (λ c. (name : List ℕ) × IfSome old (λ files. IsReached limit files (reads_of files c) name) × (text ≡ line (codes "5 read " ++ name)))
   pub write : status ≡ 6 → IsSomeAnd command (λ c. (name : List ℕ) × MayWrite c name × (text ≡ line (codes "6 write " ++ name)))
   pub memory : status ≡ 7 → text ≡ line (codes "7 memory")
   pub resolution : status ≡ 8 → (kind : ResolutionKind) × (place : ResolutionPlace) × (text ≡ resolution_line kind place)

@@ -31,6 +31,7 @@ use Rattle.whopr_words.specs.declared.job_file.Job.{Job}
 use Rattle.whopr_words.specs.declared.job_file.Jobs.{Jobs}
 use Rattle.whopr_words.specs.Jobs.{jobs_in}
 use Rattle.whopr_words.specs.Commands.{Spoken, Cc, Lgen, Show, Interp, Run, Resolve}
+use Rattle.job_links.specs.Reads.{reads_of as job_files}
 use Rattle.whopr_top.specs.declared.refusal.ResolutionPlace.TheVariants.{AtLine, AtName}
 use Rattle.whopr_top.specs.Lines.{line, outcome_line, standing_line, text_line, object_line, limit_line, resolution_line, jobs_line, batch_bytes_line}
 
@@ -123,10 +124,6 @@ JudgesText input output (Ok source) judgement = JudgesLink output (data_of sourc
 JudgesText input output (Err fault) judgement = judgement ≡ Refuses 9 (text_line fault.line fault.kind)
 
 -- ---- the program of the only job of a job file
-
--- the files of a job: its objects in order, and then its resolution
-abbrev pub job_files : Job → List (List ℕ)
-job_files job = job.objects ++ job.resolution ∷ []
 
 -- the only one of jobs
 abbrev pub only_of : List Job → Result Job Judgement

@@ -31,7 +31,7 @@ CutsShort (file ∷ files) old new =
 -- the contents that are held within the limit make the command write these files and print this text
 pub record IsJudged (limit : ℕ) (command : Spoken) (held : Contents) (written : List File) (text : List ℕ) : Type 0 where
   pub contents : List (List ℕ)
-  pub read : AreHeld limit held (reads_of limit held command) contents
+  pub read : AreHeld limit held (reads_of held command) contents
   pub judged : Judges command contents (Gives written text)
 
 -- what the command gives was written
@@ -78,7 +78,7 @@ CutShort limit command old new = IsSomeAnd command (λ c. IsCutShort limit c old
 -- the contents that are held within the limit make the command be refused with this status and line
 pub record IsRefused (limit : ℕ) (command : Spoken) (held : Contents) (status : ℕ) (text : List ℕ) : Type 0 where
   pub contents : List (List ℕ)
-  pub read : AreHeld limit held (reads_of limit held command) contents
+  pub read : AreHeld limit held (reads_of held command) contents
   pub judged : Judges command contents (Refuses status text)
 
 abbrev pub Refused : ℕ → ℕ → Contents → Option Spoken → Type 0
@@ -86,7 +86,7 @@ Refused status limit held command = IsSomeAnd command (λ c. (text : List ℕ) �
 
 -- a file that is read is too long, or the objects are too large together, or the program passes a limit
 abbrev pub IsTooLarge : ℕ → Contents → Option Spoken → Type 0
-IsTooLarge limit held command = IsSomeAnd command (λ c. IsOverLimit limit held (reads_of limit held c)) ⊎ Refused 4 limit held command
+IsTooLarge limit held command = IsSomeAnd command (λ c. IsOverLimit limit held (reads_of held c)) ⊎ Refused 4 limit held command
 
 -- the command is one that nothing that is held keeps from being done
 abbrev pub IsValid : ℕ → Contents → Option Spoken → Type 0

@@ -6,7 +6,8 @@ use Rattle.gimple_ir.specs.declared.types.Program.{Program}
 use Rattle.whopr_words.specs.declared.job_file.Job.{Job}
 use Rattle.whopr_words.specs.Jobs.{jobs_in}
 use Rattle.whopr_words.specs.Commands.{Spoken, Cc, Lgen, Show, Interp, Run, Resolve}
-use Rattle.whopr_top.specs.Judgements.{Judgement, job_files, only_job, job_program}
+use Rattle.job_links.specs.Reads.{reads_of as job_files}
+use Rattle.whopr_top.specs.Judgements.{Judgement, only_job, job_program}
 
 -- ---- what is read
 
@@ -32,15 +33,15 @@ abbrev pub text_reads : Contents → List ℕ → Option (List ℕ) → List (Li
 text_reads held input None = []
 text_reads held input (Some text) = only_reads held input (only_job (jobs_in text))
 
--- the files that a command reads, in order, by what is held within the limit
-abbrev pub reads_of : ℕ → Contents → Spoken → List (List ℕ)
-reads_of limit held (Cc input output) = input ∷ []
-reads_of limit held (Lgen input output) = input ∷ []
-reads_of limit held (Show object) = object ∷ []
-reads_of limit held (Interp jobs steps input output) = jobs ∷ text_reads held input (held jobs)
-reads_of limit held (Run image steps input output) = image ∷ input ∷ []
-reads_of limit held (Resolve output objects) = objects
-reads_of limit held command = []
+-- the files that a command reads, in order, by what is held
+abbrev pub reads_of : Contents → Spoken → List (List ℕ)
+reads_of held (Cc input output) = input ∷ []
+reads_of held (Lgen input output) = input ∷ []
+reads_of held (Show object) = object ∷ []
+reads_of held (Interp jobs steps input output) = jobs ∷ text_reads held input (held jobs)
+reads_of held (Run image steps input output) = image ∷ input ∷ []
+reads_of held (Resolve output objects) = objects
+reads_of held command = []
 
 -- the names of the files that it may write
 abbrev pub MayWrite : Spoken → List ℕ → Type 0

@@ -5,7 +5,8 @@ ghost use Rattle.gimple_meaning.specs.Run.{src, outcome_of, output_of};
 ghost use Rattle.lto_object.specs.Objects.{IsObject};
 ghost use Rattle.resolution_text.specs.Reading.{resolution_in};
 ghost use Rattle.whopr_words.specs.Commands.{Interp as InterpOf};
-ghost use Rattle.whopr_top.specs.Judgements.{Gives, Refuses, Judges, JudgesJob, job_files, only_of, job_program, program_under};
+ghost use Rattle.job_links.specs.Reads.{reads_of as job_files};
+ghost use Rattle.whopr_top.specs.Judgements.{Gives, Refuses, Judges, JudgesJob, only_of, job_program, program_under};
 ghost use Rattle.whopr_top.specs.Lines.{standing_line, jobs_line};
 ghost use Rattle.whopr_top.specs.Reads.{contents_of, job_reads, reads_of};
 ghost use Rattle.whopr_top.specs.Interpreting.{of_resolution, Answers, ComesTo, IsStop};
@@ -13,7 +14,6 @@ ghost use Rattle.whopr_top.specs.Answers.{IsQuiet};
 ghost use Rattle.whopr_top.specs.Attempts.{Attempt, Counted, Lined, Judged};
 ghost use Rattle.whopr_top.specs.Refusal.{answer_of, text_of};
 
-use crate::limits::first_passed;
 use crate::lines::standing_line;
 use crate::reads::{ReadsFault, read_files};
 use crate::refusal::{Refusal, ResolutionPlace};
@@ -23,6 +23,7 @@ use gimple_ir::{Name, NoMemory, Program};
 use gimple_meaning::Interp;
 use lto_object::Object;
 use outer_files::{FileStore, ReadFault, WriteFault};
+use program_link::first_passed;
 use std::alloc::Global;
 use symbol_resolution::{
     ResolutionError, are_few, merge, merged_programs, program_of, read_resolution,
@@ -195,9 +196,9 @@ fn run_only_job<'a, F: FileStore>(
 ) -> Result<(Vec<u8>, Vec<u8>), Refusal<'a>>
     ensures unchanged { F.held files.new ≡ F.held files.old }
     ensures never_falls { F.faults files.old ≤ F.faults files.new }
-    ensures stands { IfOk result (λ r. (output : List ℕ) → IfSome (F.held files.old) (λ held. ComesTo FILE_BYTES held (reads_of FILE_BYTES held (InterpOf jobs.now steps input.now output)) (Judges (InterpOf jobs.now steps input.now output)) (Gives ((output, r.1.items) ∷ []) r.0.items))) }
+    ensures stands { IfOk result (λ r. (output : List ℕ) → IfSome (F.held files.old) (λ held. ComesTo FILE_BYTES held (reads_of held (InterpOf jobs.now steps input.now output)) (Judges (InterpOf jobs.now steps input.now output)) (Gives ((output, r.1.items) ∷ []) r.0.items))) }
     ensures printed { IfOk result (λ r. r.0.items ≢ []) }
-    ensures refused { IfErr result (λ refusal. (output : List ℕ) → IsStop FILE_BYTES (λ held. reads_of FILE_BYTES held (InterpOf jobs.now steps input.now output)) (Judges (InterpOf jobs.now steps input.now output)) (F.held files.old) (F.faults files.old) (F.faults files.new) refusal) }
+    ensures refused { IfErr result (λ refusal. (output : List ℕ) → IsStop FILE_BYTES (λ held. reads_of held (InterpOf jobs.now steps input.now output)) (Judges (InterpOf jobs.now steps input.now output)) (F.held files.old) (F.faults files.old) (F.faults files.new) refusal) }
 {
     let text = match files.read_all(alloc, jobs, FILE_BYTES) {
         Ok(text) => text,

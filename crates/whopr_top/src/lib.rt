@@ -8,7 +8,6 @@
 mod attempt;
 mod compiling;
 mod interpreting;
-mod limits;
 mod lines;
 mod links;
 mod objects;

@@ -68,7 +68,7 @@ pub fn plain<F: FileStore, K: Sink>(
     ensures words { Exactly 2 result ((command_of (words_of words.now)) ≡ None) }
     ensures object { IsWhole (command_of (words_of words.now)) → ForSome (F.held files.old) (λ held. result ≢ 5 → Exactly 3 result (Refused 3 FILE_BYTES held (command_of (words_of words.now)))) }
     ensures limit { IsWhole (command_of (words_of words.now)) → ForSome (F.held files.old) (λ held. result ≢ 5 → Exactly 4 result (IsTooLarge FILE_BYTES held (command_of (words_of words.now)))) }
-    ensures absent { IsWhole (command_of (words_of words.now)) → ForSome (F.held files.old) (λ held. IsSomeAnd (command_of (words_of words.now)) (λ c. IsAbsent FILE_BYTES held (reads_of FILE_BYTES held c)) → (result ≡ 5) ⊎ (result ≡ 7)) }
+    ensures absent { IsWhole (command_of (words_of words.now)) → ForSome (F.held files.old) (λ held. IsSomeAnd (command_of (words_of words.now)) (λ c. IsAbsent FILE_BYTES held (reads_of held c)) → (result ≡ 5) ⊎ (result ≡ 7)) }
     ensures resolution { IsWhole (command_of (words_of words.now)) → ForSome (F.held files.old) (λ held. result ≢ 5 → Exactly 8 result (Refused 8 FILE_BYTES held (command_of (words_of words.now)))) }
     ensures text { IsWhole (command_of (words_of words.now)) → ForSome (F.held files.old) (λ held. result ≢ 5 → Exactly 9 result (Refused 9 FILE_BYTES held (command_of (words_of words.now)))) }
     ensures jobs { IsWhole (command_of (words_of words.now)) → ForSome (F.held files.old) (λ held. result ≢ 5 → Exactly 10 result (Refused 10 FILE_BYTES held (command_of (words_of words.now)))) }
@@ -121,7 +121,7 @@ pub fn whopr<F: FileStore, K: Sink>(
     ensures words { Exactly 2 result ((command_of (words_of words.now)) ≡ None) }
     ensures object { IsWhole (command_of (words_of words.now)) → ForSome (F.held files.old) (λ held. result ≢ 5 → Exactly 3 result (Refused 3 FILE_BYTES held (command_of (words_of words.now)))) }
     ensures limit { IsWhole (command_of (words_of words.now)) → ForSome (F.held files.old) (λ held. result ≢ 5 → Exactly 4 result (IsTooLarge FILE_BYTES held (command_of (words_of words.now)))) }
-    ensures absent { IsWhole (command_of (words_of words.now)) → ForSome (F.held files.old) (λ held. IsSomeAnd (command_of (words_of words.now)) (λ c. IsAbsent FILE_BYTES held (reads_of FILE_BYTES held c)) → (result ≡ 5) ⊎ (result ≡ 7)) }
+    ensures absent { IsWhole (command_of (words_of words.now)) → ForSome (F.held files.old) (λ held. IsSomeAnd (command_of (words_of words.now)) (λ c. IsAbsent FILE_BYTES held (reads_of held c)) → (result ≡ 5) ⊎ (result ≡ 7)) }
     ensures resolution { IsWhole (command_of (words_of words.now)) → ForSome (F.held files.old) (λ held. result ≢ 5 → Exactly 8 result (Refused 8 FILE_BYTES held (command_of (words_of words.now)))) }
     ensures text { IsWhole (command_of (words_of words.now)) → ForSome (F.held files.old) (λ held. result ≢ 5 → Exactly 9 result (Refused 9 FILE_BYTES held (command_of (words_of words.now)))) }
     ensures jobs { IsWhole (command_of (words_of words.now)) → ForSome (F.held files.old) (λ held. result ≢ 5 → Exactly 10 result (Refused 10 FILE_BYTES held (command_of (words_of words.now)))) }

@@ -46,7 +46,7 @@ pub fn play(alloc: Global, stage: &mut Stage, line: &str) -> Result<bool> {
     let (word, rest) = parted(line);
     match word {
         "" | "#" => {}
-        "$" => stage.run(alloc, rest)?,
+        "$" => stage.command(alloc, rest)?,
         ">" => stage.want(rest)?,
         "fail" => stage.fail_calls(alloc, rest)?,
         "sink" => stage.fail_puts(alloc, rest)?,

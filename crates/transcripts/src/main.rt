@@ -32,6 +32,7 @@ fn main(rt: HostRuntime) -> Result<()> {
                 )?;
             }
         }
+        stage.end()?;
         let (rows, differ) = stage.counts();
         println!(rt; "{name}: {rows} rows, {differ} differ")?;
     }

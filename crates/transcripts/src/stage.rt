@@ -17,6 +17,8 @@ pub struct Stage {
     printed: Vec<u8>,
     wanted: Vec<u8>,
     status: u8,
+    // no line has said what the last command answers
+    open: bool,
     rows: u32,
     differ: u32,
 }
@@ -34,6 +36,7 @@ impl Stage {
             printed: Vec::new(alloc),
             wanted: Vec::new(alloc),
             status: 0,
+            open: false,
             rows: 0,
             differ: 0,
         }
@@ -117,6 +120,22 @@ impl Stage {
         Ok(())
     }
 
+    /// Does a command whose answer the lines behind it say.
+    pub fn command(&mut self, alloc: Global, line: &str) -> Result<()> {
+        self.end()?;
+        self.run(alloc, line)?;
+        self.open = true;
+        Ok(())
+    }
+
+    /// An error where no line has said what the last command answers.
+    pub fn end(&self) -> Result<()> {
+        if self.open {
+            bail!("no line says what the last command answers");
+        }
+        Ok(())
+    }
+
     /// The calls of the next command on files with these numbers fail.
     pub fn fail_calls(&mut self, alloc: Global, numbers: &str) -> Result<()> {
         self.failing_calls = numbers_of(alloc, numbers)?;
@@ -160,7 +179,8 @@ impl Stage {
     }
 
     /// Whether the last command answered this, and printed what is wanted.
-    pub fn answered(&self, status: u8) -> bool {
+    pub fn answered(&mut self, status: u8) -> bool {
+        self.open = false;
         self.status == status && self.printed.as_slice() == self.wanted.as_slice()
     }
 

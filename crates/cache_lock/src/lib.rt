@@ -19,6 +19,3 @@ pub use cell::{Pass, SharedCell};
 pub use gimple_ir::NoMemory;
 pub use sequential::Sequential;
 pub use view::View;
-
-#[cfg(test)]
-mod tests;

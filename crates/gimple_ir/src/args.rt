@@ -8,7 +8,7 @@ use std::alloc::Global;
 use std::marker::Model;
 
 /// The arguments of a call, of which one takes no memory of its own.
-#[derive(Debug, Drop)]
+#[derive(Drop)]
 pub struct Args {
     items: SmallVec<Arg, 1, Global>,
 }
@@ -70,24 +70,4 @@ impl Args {
         let items = SmallVec::from_slice(*self.items.allocator(), self.items.as_slice())?;
         Ok(Args { items })
     }
-}
-
-impl PartialEq for Args {
-    ghost use Rattle.std.specs.Cmp.Lexicographic.{pointwise, lists_per};
-    ghost use Rattle.gimple_ir.specs.contracts.types.ArgPartialEq.TheImpl.Laws.{laws-law};
-
-    ghost eq = { pointwise ⟦<Arg as PartialEq>⟧.eq };
-
-    ghost laws = { lists_per (laws-law) };
-
-    fn eq(&self, other: &Self) -> bool {
-        self.as_slice() == other.as_slice()
-    }
-}
-
-impl Eq for Args {
-    ghost use Rattle.std.specs.Cmp.Lexicographic.{lists_equiv};
-    ghost use Rattle.gimple_ir.specs.contracts.types.ArgEq.TheImpl.Laws.{laws-law};
-
-    ghost laws = { lists_equiv (laws-law) };
 }

@@ -5,7 +5,7 @@ use crate::summary::Summary;
 use crate::types::{Array, ResultType, ScalarType};
 
 /// A function of the merged program.
-#[derive(Debug, Drop, PartialEq, Eq)]
+#[derive(Drop)]
 pub struct MergedFunction {
     pub object: u32,
     /// The function's number in its object.
@@ -20,7 +20,7 @@ pub struct MergedFunction {
 }
 
 /// An array of the merged program.
-#[derive(Debug, Drop, PartialEq, Eq)]
+#[derive(Drop)]
 pub struct MergedArray {
     pub object: u32,
     /// The array's number in its object.
@@ -31,7 +31,7 @@ pub struct MergedArray {
 }
 
 /// The merged program; `main` is a number of a function.
-#[derive(Debug, Drop, PartialEq, Eq)]
+#[derive(Drop)]
 pub struct Merged {
     pub functions: List<MergedFunction>,
     pub arrays: List<MergedArray>,

@@ -4,7 +4,7 @@ use crate::list::List;
 use crate::name::Name;
 
 /// A version of a function.
-#[derive(Debug, Drop, PartialEq, Eq)]
+#[derive(Drop)]
 pub struct Version {
     /// The function's number in the merged program.
     pub function: u32,
@@ -24,7 +24,7 @@ pub struct Version {
 }
 
 /// What a call of a version becomes.
-#[derive(Debug, Drop, PartialEq, Eq)]
+#[derive(Drop)]
 pub struct CallPlan {
     /// A place in the plan's versions.
     pub target: u32,
@@ -33,7 +33,7 @@ pub struct CallPlan {
 }
 
 /// The plan of a link.
-#[derive(Debug, Drop, PartialEq, Eq)]
+#[derive(Drop)]
 pub struct Plan {
     /// By function, then by number.
     pub versions: List<Version>,

@@ -5,7 +5,7 @@ use crate::name::Name;
 use crate::types::{ElementType, ScalarType, Statement};
 
 /// An array that a body names.
-#[derive(Debug, Drop, PartialEq, Eq)]
+#[derive(Drop)]
 pub struct ArrayUse {
     /// Its number in the body's object.
     pub local: u32,
@@ -14,7 +14,7 @@ pub struct ArrayUse {
 }
 
 /// A call to a function.
-#[derive(Debug, Drop, PartialEq, Eq)]
+#[derive(Drop)]
 pub struct CallUse {
     /// The symbol of the target version.
     pub symbol: Name,
@@ -23,7 +23,7 @@ pub struct CallUse {
 }
 
 /// A member of a unit.
-#[derive(Debug, Drop, PartialEq, Eq)]
+#[derive(Drop)]
 pub struct Member {
     pub symbol: Name,
     /// How many of the variables are parameters.

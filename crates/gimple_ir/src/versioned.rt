@@ -6,14 +6,14 @@ use crate::types::{BinaryOp, Case, Operand, ScalarType, UnaryOp};
 use crate::unit::ArrayUse;
 
 /// A move of one component.
-#[derive(Clone, Copy, Debug, PartialEq, Eq)]
+#[derive(Clone, Copy)]
 pub struct Pair {
     pub to: u32,
     pub from: Operand,
 }
 
 /// A statement of a version; `to` is a component, and labels, arrays and calls are numbers in the version's lists.
-#[derive(Debug, Drop, PartialEq, Eq)]
+#[derive(Drop)]
 pub enum Step {
     Nop,
     Label(u32),
@@ -69,7 +69,7 @@ pub enum Step {
 }
 
 /// A version of a function.
-#[derive(Debug, Drop, PartialEq, Eq)]
+#[derive(Drop)]
 pub struct VersionedFunction {
     pub symbol: Name,
     /// The type of each component, those of parameters first.

@@ -15,7 +15,7 @@ use std::alloc::Global;
 use std::marker::Model;
 
 /// A body that was read, with the bytes that spell it, which are lent. Contracts see its statements.
-#[derive(Debug, Drop)]
+#[derive(Drop)]
 pub struct StoredBody<'a> {
     bytes: &'a [u8],
     statements: List<Statement>,

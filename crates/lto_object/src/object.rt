@@ -11,7 +11,7 @@ use std::marker::Model;
 
 /// An object that was read. It lends the bytes of the bodies from the file. Contracts see its module, and the summaries, symbols and
 /// bodies, which are those of the module.
-#[derive(Debug, Drop)]
+#[derive(Drop)]
 pub struct Object<'a> {
     source: Module,
     summaries: List<Summary>,

@@ -13,6 +13,3 @@ pub use host::{HostFiles, HostSink};
 pub use memory_files::MemoryFiles;
 pub use memory_sink::MemorySink;
 pub use outside::{FileStore, ReadFault, Sink, WriteFault};
-
-#[cfg(test)]
-mod tests;

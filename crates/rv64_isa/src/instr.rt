@@ -1,7 +1,7 @@
 //! The instructions of RV64IM, without `fence` and `ebreak`.
 
 /// One instruction. Registers are numbers below 32; the range of `imm` is that of its format.
-#[derive(Clone, Copy, PartialEq, Eq, Debug)]
+#[derive(Clone, Copy, Debug)]
 pub enum Instr {
     // Upper immediates and jumps (2.4, 2.5): `imm` of `lui` and `auipc` is the 20-bit field, that of `jal` an offset in bytes.
     Lui { rd: u8, imm: i32 },

@@ -18,6 +18,3 @@ pub use fork::{Work, fork_workers};
 pub use gate::{Gate, OpenGate};
 pub use gimple_ir::NoMemory;
 pub use view::SeatView;
-
-#[cfg(test)]
-mod tests;

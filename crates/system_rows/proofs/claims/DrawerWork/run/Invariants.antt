@@ -1,6 +1,6 @@
 use Rattle.std.proofs.Common.{◌≡◌, ◌-◌, length}
 use Rattle.worker_gate.specs.Claims.{IsSeatOf}
-use Rattle.worker_gate.proofs.tests.DrawerWork.run.Given as goal
+use Rattle.system_rows.proofs.claims.DrawerWork.run.Given as goal
 
 abbrev pub invariant-loop-number : goal.invariant-loop-number
 invariant-loop-number l = (l.self.claims.now ≡ l.initial.self.claims.now) × IsSeatOf l.self.claims.now l.self.seat × (l.self.seat.view.share ≡ l.initial.self.seat.view.share)

@@ -1,6 +1,6 @@
 use Rattle.std.proofs.Common.{[], ◌∷◌, length, ap, ◌∙◌, arith, length-append}
 use Rattle.list_counts.proofs.Sums.{ascends_few}
-use Rattle.worker_gate.proofs.tests.DrawerWork.run.Goals as goal
+use Rattle.system_rows.proofs.claims.DrawerWork.run.Goals as goal
 
 pub loop-number-smaller : goal.loop-number-smaller
 loop-number-smaller c =

@@ -3,10 +3,10 @@ ghost use Rattle.std.specs.Prelude.{◌≡◌, ◌≤◌, ◌+◌, ◌<◌, ◌^
 ghost use Rattle.worker_gate.specs.Claims.{IsSeatOf, held};
 ghost use Rattle.list_counts.specs.Counts.{once_below};
 
-use super::*;
+use anyhow::Result;
 use std::alloc::Global;
-use std::test::Fail;
 use std::thread::Threads;
+use worker_gate::{ClaimSeat, Claims, Gate, NoMemory, OpenGate, Work, fork_workers};
 
 /// Draws until nothing is left.
 #[derive(Drop)]
@@ -25,7 +25,7 @@ impl<'a> Work for Drawer<'a> {
     }
 }
 
-// Three workers draw all numbers, each once.
+/// Three workers draw all numbers, each once.
 fn drawn_by_three<R: Threads + Sync>(
     rt: &R,
     alloc: Global,
@@ -71,46 +71,59 @@ fn drawn_by_three<R: Threads + Sync>(
     Ok(first)
 }
 
-/// Three workers draw all of 513 numbers, each once.
-#[test]
-fn all_numbers(rt: HostRuntime) -> Result<(), Fail> {
-    let (claims, first) = Claims::new(rt.alloc(), 513)?;
-    let seat = drawn_by_three(&rt, rt.alloc(), &claims, first)?;
+/// Draws by three workers and by two seats in turn, seats that have ended, works that are forked, and an open gate.
+pub fn play<R: Print + Threads + Sync>(rt: &R, alloc: Global) -> Result<()> {
+    let (claims, first) = Claims::new(alloc, 513)?;
+    let seat = drawn_by_three(rt, alloc, &claims, first)?;
     let own = claims.close(seat);
-    assert!(rt; own.len() <= 513);
+    println!(rt;
+        "three workers: the last seat drew at most 513 itself: {}",
+        own.len() <= 513
+    )?;
+    in_turn(rt, alloc, true)?;
+    in_turn(rt, alloc, false)?;
+    ended(rt, alloc)?;
+    each_once(rt)?;
+    let gate = OpenGate;
+    gate.before_compile(0, 0);
+    gate.after_result(0, 0);
     Ok(())
 }
 
-/// Two seats that draw in turn from three numbers have 0, 1, 2, and then None; their lists are 0, 2 and 1.
-#[test]
-fn in_turn(rt: HostRuntime) -> Result<(), Fail> {
-    for (own_of_first, own) in [(true, [0, 2].as_slice()), (false, [1].as_slice())] {
-        let (claims, mut first) = Claims::new(rt.alloc(), 3)?;
-        let mut second = claims.split(rt.alloc(), &mut first)?;
-        assert_eq!(rt; claims.draw(&mut first), Some(0));
-        assert_eq!(rt; claims.draw(&mut second), Some(1));
-        assert_eq!(rt; claims.draw(&mut first), Some(2));
-        assert_eq!(rt; claims.draw(&mut second), None);
-        assert_eq!(rt; claims.draw(&mut first), None);
-        let closing = if own_of_first { first } else { second };
-        assert_eq!(rt; claims.close(closing).as_slice(), own);
+/// Two seats that draw in turn from three numbers, and the list of the one that is closed.
+fn in_turn<R: Print>(rt: &R, alloc: Global, closes_first: bool) -> Result<()> {
+    let (claims, mut first) = Claims::new(alloc, 3)?;
+    let mut second = claims.split(alloc, &mut first)?;
+    for turn in 0..5 {
+        let drawn = if turn % 2 == 0 {
+            claims.draw(&mut first)
+        } else {
+            claims.draw(&mut second)
+        };
+        println!(rt; "two seats: draw {turn}: {drawn:?}")?;
+    }
+    let closing = if closes_first { first } else { second };
+    for number in claims.close(closing).as_slice() {
+        println!(rt; "two seats: it has {number}")?;
     }
     Ok(())
 }
 
 /// A seat draws None for good after its first None, after it took in an ended seat, and when it was split from one.
-#[test]
-fn ended(rt: HostRuntime) -> Result<(), Fail> {
-    let (claims, mut first) = Claims::new(rt.alloc(), 0)?;
-    let mut second = claims.split(rt.alloc(), &mut first)?;
-    assert_eq!(rt; claims.draw(&mut first), None);
-    assert_eq!(rt; claims.draw(&mut first), None);
-    let mut third = claims.split(rt.alloc(), &mut first)?;
-    assert_eq!(rt; claims.draw(&mut third), None);
+fn ended<R: Print>(rt: &R, alloc: Global) -> Result<()> {
+    let (claims, mut first) = Claims::new(alloc, 0)?;
+    let mut second = claims.split(alloc, &mut first)?;
+    let own = claims.draw(&mut first);
+    let again = claims.draw(&mut first);
+    let mut third = claims.split(alloc, &mut first)?;
+    let split = claims.draw(&mut third);
     claims.join(&mut second, third);
-    assert_eq!(rt; claims.draw(&mut second), None);
+    let joined = claims.draw(&mut second);
     claims.join(&mut second, first);
-    assert_eq!(rt; claims.close(second).len(), 0);
+    let left = claims.close(second).len();
+    println!(rt;
+        "no numbers: {own:?}, again {again:?}, split off {split:?}, joined {joined:?}, and {left} of its own"
+    )?;
     Ok(())
 }
 
@@ -131,9 +144,8 @@ impl Work for Runs {
 }
 
 /// Each work of a row is run once, whatever the length of the row.
-#[test]
-fn each_once(rt: HostRuntime) -> Result<(), Fail> {
-    fork_workers(&rt, &mut [Runs { runs: 7 }; 0]);
+fn each_once<R: Print + Threads + Sync>(rt: &R) -> Result<()> {
+    fork_workers(rt, &mut [Runs { runs: 7 }; 0]);
     let mut works = [
         Runs { runs: 0 },
         Runs { runs: 10 },
@@ -141,20 +153,9 @@ fn each_once(rt: HostRuntime) -> Result<(), Fail> {
         Runs { runs: 30 },
         Runs { runs: 40 },
     ];
-    fork_workers(&rt, &mut works);
-    let [a, b, c, d, e] = works;
-    assert_eq!(rt;
-        [a.runs, b.runs, c.runs, d.runs, e.runs],
-        [1, 11, 21, 31, 41]
-    );
-    Ok(())
-}
-
-/// A gate may be told of a compile and of its result.
-#[test]
-fn open_gate(_rt: HostRuntime) -> Result<(), Fail> {
-    let gate = OpenGate;
-    gate.before_compile(0, 0);
-    gate.after_result(0, 0);
+    fork_workers(rt, &mut works);
+    for work in &works {
+        println!(rt; "works: {}", work.runs)?;
+    }
     Ok(())
 }

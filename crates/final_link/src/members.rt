@@ -11,7 +11,7 @@ use std::alloc::Global;
 
 /// A function that a part defines: the part's place among the parts, and the function's place and size in the part's text,
 /// in bytes.
-#[derive(Clone, Copy, Debug)]
+#[derive(Clone, Copy)]
 pub struct Member {
     pub part: usize,
     pub start: u64,

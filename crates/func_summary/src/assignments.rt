@@ -16,14 +16,14 @@ use std::alloc::Global;
 
 /// An assignment to a component, with what it gives: `Pass` of a component is a copy of it, and the other jump functions
 /// are said over the function's own components likewise.
-#[derive(Clone, Copy, Debug, PartialEq, Eq)]
+#[derive(Clone, Copy)]
 pub struct Assignment {
     pub to: u32,
     pub value: JumpFunction,
 }
 
 /// How often a component is assigned.
-#[derive(Clone, Copy, Debug, PartialEq, Eq)]
+#[derive(Clone, Copy)]
 pub enum Assigned {
     Never,
     /// By one statement, which gives this.

@@ -9,7 +9,7 @@ use gimple_ir::{Arg, Args, NoMemory, Operand, ParamFacts, Statement};
 use std::alloc::Global;
 
 /// A place of a statement that names a component.
-#[derive(Clone, Copy, Debug, PartialEq, Eq)]
+#[derive(Clone, Copy)]
 pub struct Place {
     pub component: u32,
     /// Whether it is an argument of a call to a function, and none of a builtin.

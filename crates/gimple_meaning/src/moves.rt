@@ -18,7 +18,7 @@ use gimple_ir::{
 };
 
 /// A plan for one statement, which takes no memory.
-#[derive(Clone, Copy, Debug)]
+#[derive(Clone, Copy)]
 pub enum Move {
     /// The statement is undefined here.
     Fault,

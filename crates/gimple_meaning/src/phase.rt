@@ -1,7 +1,7 @@
 //! How a run stands, apart from its state.
 
 /// Going on, ended with a status, or undefined at the newest frame's statement.
-#[derive(Clone, Copy, Debug)]
+#[derive(Clone, Copy)]
 pub enum Phase {
     Running,
     Ended(u8),

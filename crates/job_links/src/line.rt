@@ -27,7 +27,7 @@ pub enum JobLine {
 }
 
 /// What is said of each job, in their order.
-#[derive(Debug, Drop)]
+#[derive(Drop)]
 pub struct Report {
     pub jobs: Jobs,
     pub lines: List<JobLine>,

@@ -17,7 +17,7 @@ pub enum Word {
 }
 
 /// What is answered of one symbol.
-#[derive(Debug, Drop, PartialEq, Eq)]
+#[derive(Drop)]
 pub struct Resolved {
     pub word: Word,
     pub name: Name,
@@ -26,14 +26,14 @@ pub struct Resolved {
 }
 
 /// What is answered of a file's symbols, in the file's order.
-#[derive(Debug, Drop, PartialEq, Eq)]
+#[derive(Drop)]
 pub struct ResolvedFile {
     pub name: Name,
     pub words: List<Resolved>,
 }
 
 /// What is answered of all files, in the order of the link.
-#[derive(Debug, Drop, PartialEq, Eq)]
+#[derive(Drop)]
 pub struct Resolution {
     pub files: List<ResolvedFile>,
 }

@@ -17,7 +17,7 @@ use rv64_frame::FrameLayout;
 use std::alloc::Global;
 
 /// The code of a function. The fields that relocations fill are 0 in its words; a relocation's symbol is a place in `names`.
-#[derive(Debug, Drop)]
+#[derive(Drop)]
 pub struct FunctionCode {
     pub words: List<u32>,
     /// By ascending offsets from the function's first byte.

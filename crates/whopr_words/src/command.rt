@@ -7,7 +7,7 @@ ghost use Rattle.whopr_words.specs.Spoken.{spoken_of};
 use cursors::decimal;
 
 /// A command, which lends its words. A file name has 1 to 255 bytes from 0x21 to 0x7e.
-#[derive(Clone, Copy, Debug)]
+#[derive(Clone, Copy)]
 pub enum Command<'a> {
     /// Compiles the text `input` to the image `out`.
     Cc {

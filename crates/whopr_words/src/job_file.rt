@@ -13,14 +13,14 @@ use std::alloc::Global;
 use text_lines::{LineError, LineReader, name};
 
 /// The links of a job file, in order, and the most objects that their cache holds.
-#[derive(Debug, Drop, PartialEq, Eq)]
+#[derive(Drop)]
 pub struct Jobs {
     pub cache: u32,
     pub links: List<Job>,
 }
 
 /// A link.
-#[derive(Debug, Drop, PartialEq, Eq)]
+#[derive(Drop)]
 pub struct Job {
     /// The number of its `link` line, counted from 1.
     pub line: u32,

@@ -7,7 +7,7 @@ use gimple_ir::{Bytes, Field, List, Name, NoMemory, ScalarType, StructDef, VarTy
 use std::alloc::Global;
 
 /// Where a component stands in its function: `x`, or `s.f` for a field of a struct variable.
-#[derive(Debug, Drop)]
+#[derive(Drop)]
 pub struct Place {
     pub text: Bytes,
     pub ty: ScalarType,

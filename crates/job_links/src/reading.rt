@@ -10,7 +10,7 @@ use std::alloc::Global;
 use whopr_words::Job;
 
 /// The bytes of a job's files.
-#[derive(Debug, Drop)]
+#[derive(Drop)]
 pub struct JobFiles {
     /// Of its objects, in order.
     pub objects: List<List<u8>>,

@@ -19,7 +19,7 @@ use symbol_resolution::{ResolutionError, ResolutionKind, are_few, merged_program
 use text_laws::read_is_checked;
 
 /// Why objects have no image.
-#[derive(Debug, Drop)]
+#[derive(Drop)]
 pub enum ImageFault {
     /// They have no resolution, or do not merge under it; the first fault.
     Resolution(ResolutionKind, ResolutionPlace),

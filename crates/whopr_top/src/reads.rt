@@ -9,7 +9,7 @@ use outer_files::{FileStore, ReadFault};
 use std::alloc::Global;
 
 /// Why files could not be read.
-#[derive(Debug, Drop)]
+#[derive(Drop)]
 pub enum ReadsFault {
     /// This file could not be read.
     Failed(Name),

@@ -11,7 +11,7 @@ use std::alloc::{AllocError, Global};
 use symbol_resolution::ResolutionKind;
 
 /// Where a fault of a resolution is.
-#[derive(Debug, Drop)]
+#[derive(Drop)]
 pub enum ResolutionPlace {
     /// At this line of its text, counted from 1.
     AtLine(u32),
@@ -20,7 +20,7 @@ pub enum ResolutionPlace {
 }
 
 /// Why a command was refused. One variant a status.
-#[derive(Debug, Drop)]
+#[derive(Drop)]
 pub enum Refusal<'a> {
     /// 2: the words are no command.
     NoCommand,

@@ -20,7 +20,7 @@ use std::alloc::Global;
 use symbol_resolution::{ResolutionError, ResolutionKind, print_resolution};
 
 /// Why files are no objects.
-#[derive(Debug, Drop)]
+#[derive(Drop)]
 pub enum ObjectsFault {
     /// The file with this number is the first that has a fault; its first.
     Object(usize, ObjectFault),
@@ -28,7 +28,7 @@ pub enum ObjectsFault {
 }
 
 /// Why files have no resolution.
-#[derive(Debug, Drop)]
+#[derive(Drop)]
 pub enum ResolveFault {
     /// The file with this number is the first that is no object; its first fault.
     Object(usize, ObjectFault),

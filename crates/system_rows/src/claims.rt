@@ -94,14 +94,13 @@ pub fn play<R: Print + Threads + Sync>(rt: &R, alloc: Global) -> Result<()> {
 fn in_turn<R: Print>(rt: &R, alloc: Global, closes_first: bool) -> Result<()> {
     let (claims, mut first) = Claims::new(alloc, 3)?;
     let mut second = claims.split(alloc, &mut first)?;
-    for turn in 0..5 {
-        let drawn = if turn % 2 == 0 {
-            claims.draw(&mut first)
-        } else {
-            claims.draw(&mut second)
-        };
-        println!(rt; "two seats: draw {turn}: {drawn:?}")?;
-    }
+    let one = claims.draw(&mut first);
+    let two = claims.draw(&mut second);
+    let three = claims.draw(&mut first);
+    println!(rt; "two seats: {one:?} {two:?} {three:?}")?;
+    let four = claims.draw(&mut second);
+    let five = claims.draw(&mut first);
+    println!(rt; "two seats: then {four:?} and {five:?}")?;
     let closing = if closes_first { first } else { second };
     for number in claims.close(closing).as_slice() {
         println!(rt; "two seats: it has {number}")?;

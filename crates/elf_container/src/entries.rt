@@ -1,7 +1,7 @@
 //! Entries of tables: words, symbols and relocations, written one behind the other and read again.
-ghost use Rattle.std.specs.Prelude.{◌≡◌, ◌≤◌, ◌+◌, ◌*◌, ◌++◌, ◌%◌, ◌^◌, ◌<◌, List, ℕ, length, OnOk, IfOk};
+ghost use Rattle.std.specs.Prelude.{◌≡◌, ◌≤◌, ◌+◌, ◌*◌, ◌++◌, [], ◌∷◌, ◌%◌, ◌^◌, ◌<◌, List, ℕ, length, OnOk, IfOk};
 ghost use Rattle.std.specs.List.{flat_map};
-ghost use Rattle.cursors.specs.Fixed.{le32};
+ghost use Rattle.cursors.specs.Fixed.{le16, le32, le64};
 ghost use Rattle.elf_container.specs.Entries.{entries, word_in, sym_bytes, sym_in, reloc_bytes, reloc_in};
 ghost use Rattle.elf_container.specs.Relocatable.{name_bytes};
 
@@ -13,7 +13,7 @@ use std::alloc::Global;
 
 /// An entry of a symbol table (`Elf64_Sym`): where the name begins in `.strtab`, the info byte, the section's number, the value
 /// and the size in bytes.
-#[derive(Clone, Copy, Debug)]
+#[derive(Clone, Copy)]
 pub struct Sym {
     pub name: u32,
     pub info: u8,
@@ -30,11 +30,27 @@ pub trait Spelled {
         ensures { OnOk result (out.new.items ≡ out.old.items ++ spell self.now) };
 }
 
+impl Spelled for u16 {
+    ghost spell = { le16 };
+
+    fn put(&self, out: &mut Vec<u8>) -> Result<(), NoMemory> {
+        put_le16(out, *self)
+    }
+}
+
 impl Spelled for u32 {
     ghost spell = { le32 };
 
     fn put(&self, out: &mut Vec<u8>) -> Result<(), NoMemory> {
         put_le32(out, *self)
+    }
+}
+
+impl Spelled for u64 {
+    ghost spell = { le64 };
+
+    fn put(&self, out: &mut Vec<u8>) -> Result<(), NoMemory> {
+        put_le64(out, *self)
     }
 }
 
@@ -48,8 +64,7 @@ impl Spelled for Sym {
         out.push(0)?;
         put_le16(out, self.section)?;
         put_le64(out, self.value)?;
-        put_le64(out, self.size)?;
-        Ok(())
+        put_le64(out, self.size)
     }
 }
 
@@ -61,8 +76,7 @@ impl Spelled for Reloc {
         put_le64(out, self.offset)?;
         put_le32(out, self.kind)?;
         put_le32(out, self.symbol.wrapping_add(1))?;
-        put_le64(out, 0)?;
-        Ok(())
+        put_le64(out, 0)
     }
 }
 
@@ -70,10 +84,17 @@ impl Spelled for RelSymbol {
     ghost spell = { name_bytes };
 
     fn put(&self, out: &mut Vec<u8>) -> Result<(), NoMemory> {
-        out.extend_from_slice(self.name.as_slice())?;
-        out.push(0)?;
-        Ok(())
+        put_name(out, self.name.as_slice())
     }
+}
+
+/// Writes a name, and the zero behind it.
+pub fn put_name(out: &mut Vec<u8>, name: &[u8]) -> Result<(), NoMemory>
+    ensures { OnOk result (out.new.items ≡ (out.old.items ++ name.now) ++ 0 ∷ []) }
+{
+    out.extend_from_slice(name)?;
+    out.push(0)?;
+    Ok(())
 }
 
 /// Writes the items at the end.

@@ -8,7 +8,7 @@ use std::alloc::Global;
 
 /// What a section header tells that is not the same in each: the name's offset in `.shstrtab`, the type, the flags, the bytes'
 /// offset and size in the file, link, info and the size of an entry.
-#[derive(Clone, Copy, Debug)]
+#[derive(Clone, Copy)]
 pub struct Header {
     pub name: u32,
     pub kind: u32,

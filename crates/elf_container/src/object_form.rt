@@ -4,7 +4,7 @@ ghost use Rattle.std.specs.List.{list_all};
 ghost use Rattle.std.specs.Str.{bytes_eq};
 ghost use Rattle.gimple_ir.specs.Names.{repeats};
 ghost use Rattle.elf_container.specs.SeenNames.{holds};
-ghost use Rattle.elf_container.specs.Relocatable.{is_auipc, is_jalr, is_lui, is_load, is_store, next_is_jalr, fills, reach, relocs_from, after, named_in_order, is_undefined, is_defined, stands, fill_from};
+ghost use Rattle.elf_container.specs.Relocatable.{is_auipc, is_jalr, is_lui, is_load, is_store, next_is_jalr, fills_by, fills, reach, relocs_from, after, named_in_order, is_undefined, is_defined, stands, fill_from};
 ghost use Rattle.elf_container.specs.ObjectReading.{is_object};
 
 use crate::format::{R_RISCV_CALL_PLT, R_RISCV_HI20, R_RISCV_LO12_I, R_RISCV_LO12_S};
@@ -57,24 +57,34 @@ fn next_is_jalr(next: Option<&u32>) -> bool
     }
 }
 
+fn is_call(word: u32, next: Option<&u32>) -> bool
+    ensures { result ≡ (is_auipc word && next_is_jalr (option_copied next.entry)) }
+{
+    is_auipc(word) && next_is_jalr(next)
+}
+
+/// Whether a word, before the next one, is what a relocation of the kind fills.
+fn is_filled(kind: u32, word: u32, next: Option<&u32>) -> bool
+    ensures { result ≡ fills_by kind (Some word) (option_copied next.entry) }
+{
+    match kind {
+        R_RISCV_CALL_PLT => is_call(word, next),
+        R_RISCV_HI20 => is_lui(word),
+        R_RISCV_LO12_I => is_load(word),
+        R_RISCV_LO12_S => is_store(word),
+        _ => false,
+    }
+}
+
 /// Whether the words at a place are what a relocation of the kind fills.
 #[tactic(auto, unfolding(crate::specs::Relocatable::fills))]
 fn fills(kind: u32, place: usize, words: &[u32]) -> bool
     ensures { result ≡ fills kind place words.now }
 {
-    let Some(word) = words.get(place) else {
-        return false;
-    };
-    if kind == R_RISCV_CALL_PLT {
-        return is_auipc(*word) && next_is_jalr(words.get(place + 1));
+    match words.get(place) {
+        None => false,
+        Some(word) => is_filled(kind, *word, words.get(place + 1)),
     }
-    if kind == R_RISCV_HI20 {
-        return is_lui(*word);
-    }
-    if kind == R_RISCV_LO12_I {
-        return is_load(*word);
-    }
-    kind == R_RISCV_LO12_S && is_store(*word)
 }
 
 fn reach(kind: u32) -> u128

@@ -32,7 +32,7 @@ pub struct Reloc {
 }
 
 /// The relocatable object of a unit. The fields that relocations fill are 0 in its words.
-#[derive(Debug, Drop)]
+#[derive(Drop)]
 pub struct RelocObject {
     pub symbols: List<RelSymbol>,
     pub words: List<u32>,

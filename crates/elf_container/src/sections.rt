@@ -8,7 +8,7 @@ use gimple_ir::{Bytes, List, Name};
 use std::marker::Model;
 
 /// A section that lends its bytes from a file.
-#[derive(Debug, Drop)]
+#[derive(Drop)]
 pub struct Section<'a> {
     pub name: Name,
     /// The section's type, 1 to 4: `SHT_PROGBITS`, `SHT_SYMTAB`, `SHT_STRTAB` or `SHT_RELA`.
@@ -21,7 +21,7 @@ pub struct Section<'a> {
 }
 
 /// A section with bytes of its own.
-#[derive(Debug, Drop)]
+#[derive(Drop)]
 pub struct OwnSection {
     pub name: Name,
     /// The section's type, 1 to 4: `SHT_PROGBITS`, `SHT_SYMTAB`, `SHT_STRTAB` or `SHT_RELA`.
@@ -34,7 +34,7 @@ pub struct OwnSection {
 }
 
 /// What a section's header tells beside its name and its bytes.
-#[derive(Clone, Copy, Debug, PartialEq, Eq)]
+#[derive(Clone, Copy)]
 pub struct Fields {
     pub kind: u32,
     pub flags: u64,
@@ -92,7 +92,7 @@ fn names_size(sections: &[Section<'_>]) -> u64
 }
 
 /// The sections of a file, in order, but for `.shstrtab`. Contracts see the list of them, with the bytes that they lend.
-#[derive(Debug, Drop)]
+#[derive(Drop)]
 pub struct RelView<'a> {
     sections: List<Section<'a>>,
 }

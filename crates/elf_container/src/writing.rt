@@ -5,13 +5,14 @@ ghost use Rattle.elf_container.specs.Layout.{zeros, padded, start, placed, place
 ghost use Rattle.elf_container.specs.Container.{IsPlain, IsWritable, IsContainer};
 ghost use Rattle.elf_container.specs.Views.{owned};
 
+use crate::entries::{put_all, put_name};
 use crate::format::{
     ELFCLASS64, ELFDATA2LSB, ELFMAG0, ELFMAG1, ELFMAG2, ELFMAG3, EM_RISCV, ET_REL, EV_CURRENT,
     SHT_STRTAB,
 };
 use crate::placing::Placed;
 use crate::sections::{Fields, OwnSection, Section};
-use cursors::{put_le16, put_le32, put_le64};
+use cursors::put_le32;
 use gimple_ir::{List, NoMemory};
 use std::alloc::Global;
 use std::marker::Model;
@@ -60,17 +61,10 @@ fn put_section_header(
 ) -> Result<(), NoMemory>
     ensures { OnOk result (out.new.items ≡ out.old.items ++ section_header name offset fields size) }
 {
-    put_le32(out, name)?;
-    put_le32(out, fields.kind)?;
-    put_le64(out, fields.flags)?;
-    put_le64(out, 0)?;
-    put_le64(out, offset)?;
-    put_le64(out, size)?;
-    put_le32(out, fields.link)?;
-    put_le32(out, fields.info)?;
-    put_le64(out, 8)?;
-    put_le64(out, fields.entry_size)?;
-    Ok(())
+    put_all(out, &[name, fields.kind])?;
+    put_all(out, &[fields.flags, 0, offset, size])?;
+    put_all(out, &[fields.link, fields.info])?;
+    put_all(out, &[8, fields.entry_size])
 }
 
 #[tactic(auto, unfolding(crate::specs::Format::file_header))]
@@ -96,20 +90,11 @@ fn put_file_header(out: &mut Vec<u8>, shoff: u64, shnum: u16) -> Result<(), NoMe
         0,
         0,
     ])?;
-    put_le16(out, ET_REL)?;
-    put_le16(out, EM_RISCV)?;
+    put_all(out, &[ET_REL, EM_RISCV])?;
     put_le32(out, EV_CURRENT as u32)?;
-    put_le64(out, 0)?;
-    put_le64(out, 0)?;
-    put_le64(out, shoff)?;
+    put_all(out, &[0, 0, shoff])?;
     put_le32(out, 0)?;
-    put_le16(out, 64)?;
-    put_le16(out, 0)?;
-    put_le16(out, 0)?;
-    put_le16(out, 64)?;
-    put_le16(out, shnum)?;
-    put_le16(out, shnum - 1)?;
-    Ok(())
+    put_all(out, &[64, 0, 0, 64, shnum, shnum - 1])
 }
 
 /// Writes the header over the first bytes of the file.
@@ -171,10 +156,8 @@ impl Laid {
         let at = self.names.len() as u32;
         let offset = self.file.len() as u64;
         put_section_header(&mut self.table, at, offset, fields, bytes.len() as u64)?;
-        self.names.extend_from_slice(name)?;
-        self.names.push(0)?;
-        self.file.extend_from_slice(bytes)?;
-        Ok(())
+        put_name(&mut self.names, name)?;
+        self.file.extend_from_slice(bytes)
     }
 
     /// Places `.shstrtab`, whose bytes are the names so far and its own.
@@ -184,8 +167,7 @@ impl Laid {
         ensures room { OnOk result (length self.old.file ≤ length self.new.file) }
     {
         let mut bytes = Vec::from_slice(alloc, self.names.as_slice())?;
-        bytes.extend_from_slice(SHSTRTAB)?;
-        bytes.push(0)?;
+        put_name(&mut bytes, SHSTRTAB)?;
         let fields = Fields {
             kind: SHT_STRTAB,
             flags: 0,

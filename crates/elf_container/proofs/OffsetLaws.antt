@@ -1,5 +1,5 @@
 -- The sections of a laid out file stand where their list says.
-use Rattle.std.proofs.Common.{◌≡◌, ℕ, zero, suc, ◌+◌, ◌*◌, ◌^◌, ◌<◌, ◌≤◌, List, [], ◌∷◌, ◌++◌, length, take, drop, get_or, Some, refl, sym, ap, subst, ◌∙◌, append_assoc, length-append, arith}
+use Rattle.std.proofs.Common.{◌≡◌, ℕ, zero, suc, ◌+◌, ◌^◌, ◌<◌, ◌≤◌, List, [], ◌∷◌, ◌++◌, length, take, drop, get_or, Some, refl, sym, ap, subst, ◌∙◌, length-append, arith}
 use Rattle.std.specs.Prelude.{slice_get, sum_by, map}
 use Rattle.std.specs.List.{fold, AllByRecursion}
 use Rattle.std.proofs.lemmas.List.{take_all, take_at, take-map, length-take}
@@ -7,14 +7,14 @@ use Rattle.std.proofs.lemmas.List.Sums.{fold-append, sum_by-cons, sum_by-append}
 use Rattle.std.proofs.lemmas.List.Elements.{recursion_from_All}
 use Rattle.elf_container.specs.declared.headers.Header.{Header}
 use Rattle.elf_container.specs.declared.sections.OwnSection.{OwnSection}
-use Rattle.elf_container.specs.Layout.{gap, zeros, padded, Parts, start, placed, fields_of, shstrtab_name, shstrtab_of, parts_of, layout_of}
+use Rattle.elf_container.specs.Layout.{gap, zeros, padded, Parts, start, placed, shstrtab_name, shstrtab_of, parts_of, layout_of}
 use Rattle.elf_container.specs.Offsets.{aligned, end_after, end_of, offset_of, names_size, table_of, header_of, size_of}
 use Rattle.elf_container.specs.Container.{IsSection, IsContainer}
 use Rattle.elf_container.specs.Reading.{shoff, header_at}
 use Rattle.elf_container.proofs.FileLaws.{table_is}
 use Rattle.elf_container.proofs.Laying.{next}
-use Rattle.elf_container.proofs.Places.{Begins, begins_through, at_front, Grows, grows, zeros_len, padded_begins, padded_len, tables_len, Holds, header_found}
-use Rattle.elf_container.proofs.ReadAgain.{names_before, with_names, parts_are, room, all_push, is_section, layout_is, behind_header, table_size, size_is, holds, has_header}
+use Rattle.elf_container.proofs.Places.{Begins, begins_through, at_front, Grows, grows, zeros_len, padded_begins, padded_len, tables_len, header_found}
+use Rattle.elf_container.proofs.ReadAgain.{names_before, with_names, parts_are, room, layout_is, behind_header, table_size, size_is, holds, has_header}
 
 -- ---- lengths
 

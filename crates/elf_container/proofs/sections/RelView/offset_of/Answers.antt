@@ -1,4 +1,4 @@
-use Rattle.std.proofs.Common.{◌≡◌, ◌<◌, ◌^◌, length, take, ap, subst, sym, ◌∙◌, arith}
+use Rattle.std.proofs.Common.{take, ap, sym, ◌∙◌, arith}
 use Rattle.std.specs.Prelude.{map}
 use Rattle.std.proofs.lemmas.List.{take-map}
 use Rattle.elf_container.specs.Views.{owned}

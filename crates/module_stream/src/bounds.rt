@@ -5,7 +5,7 @@ ghost use Rattle.module_stream.specs.Bodies.{component_count};
 use gimple_ir::{List, ScalarType};
 
 /// What the numbers in a body may name: one type for each component, and how many there are of the others.
-#[derive(Debug, Drop)]
+#[derive(Drop)]
 pub struct BodyBounds {
     pub types: List<ScalarType>,
     pub variables: u32,

@@ -24,7 +24,7 @@ pub trait Coded: Copy {
 }
 
 /// The forms of statements. A call and a `getchar` have two each: without a target and with one.
-#[derive(Clone, Copy, Debug, PartialEq, Eq)]
+#[derive(Clone, Copy)]
 pub enum Opcode {
     Nop,
     Label,

@@ -6,7 +6,7 @@ use gimple_ir::JumpFunction;
 use module_stream::Coded;
 
 /// The kinds of jump functions.
-#[derive(Clone, Copy, Debug, PartialEq, Eq)]
+#[derive(Clone, Copy)]
 pub enum JumpKind {
     Unknown,
     Const,

@@ -1,5 +1,5 @@
 //! The sections of an object.
-ghost use Rattle.std.specs.Prelude.{◌≡◌, [], ◌∷◌, IfOk};
+ghost use Rattle.std.specs.Prelude.{◌≡◌, ◌++◌, [], ◌∷◌, codes, IfOk, OnOk};
 ghost use Rattle.gimple_ir.specs.Names.{IsName};
 ghost use Rattle.lto_object.specs.Objects.{section_of, sections_with};
 
@@ -38,6 +38,35 @@ fn section(alloc: Global, name: &str, bytes: Vec<u8>) -> Result<OwnSection, NoMe
     })
 }
 
+/// Adds a section at the end.
+fn add(
+    sections: &mut List<OwnSection>,
+    alloc: Global,
+    name: &str,
+    bytes: Vec<u8>,
+) -> Result<(), NoMemory>
+    requires { IsName name.now }
+    ensures { OnOk result (sections.new ≡ sections.old ++ section_of name.now bytes.items ∷ []) }
+{
+    let added = section(alloc, name, bytes)?;
+    sections.push(added)?;
+    Ok(())
+}
+
+/// The section of the version alone.
+fn version(alloc: Global) -> Result<List<OwnSection>, NoMemory>
+    ensures { IfOk result (λ sections. sections ≡ section_of (codes ".gnu.lto_.version") (1 ∷ []) ∷ []) }
+{
+    let mut sections = List::new(alloc);
+    add(
+        &mut sections,
+        alloc,
+        ".gnu.lto_.version",
+        vec![in alloc; 1u8]?,
+    )?;
+    Ok(sections)
+}
+
 /// The five sections with these bytes, and the version.
 pub fn sections(
     alloc: Global,
@@ -48,12 +77,10 @@ pub fn sections(
 ) -> Result<List<OwnSection>, NoMemory>
     ensures { IfOk result (λ sections. sections ≡ sections_with (1 ∷ []) decls.items bodies.items summaries.items symbols.items) }
 {
-    let version = vec![in alloc; 1u8]?;
-    let mut sections = List::new(alloc);
-    sections.push(section(alloc, ".gnu.lto_.version", version)?)?;
-    sections.push(section(alloc, ".gnu.lto_.decls", decls)?)?;
-    sections.push(section(alloc, ".gnu.lto_.bodies", bodies)?)?;
-    sections.push(section(alloc, ".gnu.lto_.summaries", summaries)?)?;
-    sections.push(section(alloc, ".gnu.lto_.symbols", symbols)?)?;
+    let mut sections = version(alloc)?;
+    add(&mut sections, alloc, ".gnu.lto_.decls", decls)?;
+    add(&mut sections, alloc, ".gnu.lto_.bodies", bodies)?;
+    add(&mut sections, alloc, ".gnu.lto_.summaries", summaries)?;
+    add(&mut sections, alloc, ".gnu.lto_.symbols", symbols)?;
     Ok(sections)
 }

@@ -12,7 +12,7 @@ use module_stream::{Coded, Decode, Encode, StreamError, coded, counted, put_coun
 use std::alloc::Global;
 
 /// What the stream has of a symbol.
-#[derive(Debug, Drop, PartialEq, Eq)]
+#[derive(Drop)]
 pub struct StoredSymbol {
     pub name: Name,
     /// Whether it is a function, and else an array.

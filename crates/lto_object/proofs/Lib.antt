@@ -14,4 +14,5 @@ pub mod SizeLaws
 pub mod SymbolFits
 pub mod ReadLaws
 pub mod LoopLaws
+pub mod LoopSteps
 pub mod RankLaws

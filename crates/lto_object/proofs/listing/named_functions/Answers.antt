@@ -1,0 +1,12 @@
+use Rattle.std.proofs.Common.{◌++◌, [], ap, ◌∙◌, arith}
+use Rattle.std.specs.List.{flat_map}
+use Rattle.lto_object.specs.Objects.{functions_in}
+use Rattle.gimple_ir.specs.declared.types.Function.{Function}
+use Rattle.lto_object.proofs.LoopSteps.{put_more}
+use Rattle.lto_object.proofs.listing.named_functions.Goals as goal
+
+pub loop-function-preserved : goal.loop-function-preserved
+loop-function-preserved c =
+    let l = c.loop-function in
+    put_more (λ (f : Function). flat_map functions_in f.body) [] l.named.items c.push_functions.new.named.items c.args.functions.now l.function-index c.function-item.result (omega arith) c.function-item.is l.invariant
+    (c.in_ok-push_functions.ensures ∙ ap (λ body. l.named.items ++ flat_map functions_in body) c.as_slice.ensures)

@@ -7,8 +7,8 @@ ghost use Rattle.lto_object.specs.Bounds.{defined_of};
 ghost use Rattle.lto_object.specs.BodyStream.{bodies_of};
 ghost use Rattle.lto_object.specs.SymbolStream.{stored_of};
 ghost use Rattle.lto_object.specs.SummaryStream.{FitSummaries};
-ghost use Rattle.lto_object.specs.Objects.{ranks_of, IsObject};
-ghost use Rattle.lto_object.specs.ObjectReading.{same_summary, summary_fault, summaries_fault, same_symbol, differs_from, type_fault, unless, checked, GivesSeen};
+ghost use Rattle.lto_object.specs.Objects.{ranks_of, symbols_of, IsObject};
+ghost use Rattle.lto_object.specs.ObjectReading.{same_summary, summary_fault, summaries_fault, same_symbol, differs_from, symbols_fault, type_fault, unless, checked, GivesSeen};
 ghost use Rattle.lto_object.specs.Streamed.{stored};
 
 use crate::bounds::is_defined;
@@ -127,6 +127,18 @@ fn summaries_fault(
     Ok(None)
 }
 
+/// Checks that the stored summaries are the true ones.
+fn check_summaries(alloc: Global, source: &Module, stored: &[Summary]) -> Result<(), ObjectError>
+    requires { IsChecked source.now }
+    ensures exact { GivesSeen (λ unit. unit) result (unless (summaries_fault source.now stored.now) (Ok tt)) }
+    ensures none { IfOk result (λ _. summaries_fault source.now stored.now ≡ None) }
+{
+    match summaries_fault(alloc, source, stored)? {
+        None => Ok(()),
+        Some(fault) => Err(ObjectError::Fault(fault)),
+    }
+}
+
 // ---- symbols
 
 fn same_symbol(stored: &StoredSymbol, symbol: &Symbol) -> bool
@@ -155,6 +167,27 @@ fn differs(stored: &[StoredSymbol], symbols: &[Symbol]) -> Option<usize>
         Some(symbols.len())
     } else {
         None
+    }
+}
+
+/// The symbols of the module, where the stored ones are these.
+fn checked_symbols(
+    alloc: Global,
+    source: &Module,
+    stored: &[StoredSymbol],
+) -> Result<List<Symbol>, ObjectError>
+    requires { IsChecked source.now }
+    ensures exact { GivesSeen (λ _. tt {0}) result (unless (symbols_fault source.now stored.now) (Ok (tt {0}))) }
+    ensures none { IfOk result (λ _. symbols_fault source.now stored.now ≡ None) }
+    ensures theirs { IfOk result (λ symbols. symbols ≡ symbols_of source.now) }
+    ensures same { IfOk result (λ symbols. stored.now ≡ map stored_of symbols) }
+{
+    let symbols = symbols(alloc, source)?;
+    match differs(stored, symbols.as_slice()) {
+        None => Ok(symbols),
+        Some(place) => Err(ObjectError::Fault(ObjectFault::SymbolsDiffer {
+            place: place as u32,
+        })),
     }
 }
 
@@ -199,19 +232,8 @@ pub fn checked<'a>(alloc: Global, streams: Streams<'a>) -> Result<Object<'a>, Ob
         symbols: stored,
     } = streams;
     type_fault(alloc, &source)?;
-    match summaries_fault(alloc, &source, summaries.as_slice())? {
-        None => {}
-        Some(fault) => return Err(ObjectError::Fault(fault)),
-    }
-    let symbols = symbols(alloc, &source)?;
-    match differs(stored.as_slice(), symbols.as_slice()) {
-        None => {}
-        Some(place) => {
-            return Err(ObjectError::Fault(ObjectFault::SymbolsDiffer {
-                place: place as u32,
-            }));
-        }
-    }
+    check_summaries(alloc, &source, summaries.as_slice())?;
+    let symbols = checked_symbols(alloc, &source, stored.as_slice())?;
     let ranks = ranks(alloc, source.functions.as_slice())?;
     Ok(Object::new(source, summaries, symbols, bodies, ranks))
 }

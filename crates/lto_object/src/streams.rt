@@ -148,6 +148,20 @@ fn slices<'a>(alloc: Global, bodies: &[StoredBody<'a>]) -> Result<Vec<&'a [u8]>,
     Ok(slices)
 }
 
+/// The module with the bodies, and the bytes of these.
+fn joined<'a>(
+    alloc: Global,
+    declared: Module,
+    bodies: Vec<StoredBody<'a>>,
+) -> Result<(Module, Vec<&'a [u8]>), NoMemory>
+    ensures source { IfOk result (λ parts. parts.0 ≡ with_bodies declared bodies.entry.items) }
+    ensures lent { IfOk result (λ parts. map (λ b. b.now) parts.1.items ≡ map body_of bodies.entry.items) }
+{
+    let slices = slices(alloc, bodies.as_slice())?;
+    let source = with_bodies(alloc, declared, bodies)?;
+    Ok((source, slices))
+}
+
 // ---- streams
 
 /// The fault of a stream that begins at an offset of the file.
@@ -231,11 +245,10 @@ pub fn read_streams<'a>(alloc: Global, view: &RelView<'a>) -> Result<Streams<'a>
     let bodies = bodies(alloc, view, &declared)?;
     let summaries = summaries(alloc, view, &declared)?;
     let symbols = symbols(alloc, view)?;
-    let slices = slices(alloc, bodies.as_slice())?;
-    let source = with_bodies(alloc, declared, bodies)?;
+    let (source, bodies) = joined(alloc, declared, bodies)?;
     Ok(Streams {
         source,
-        bodies: slices,
+        bodies,
         summaries,
         symbols,
     })

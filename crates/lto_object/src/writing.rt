@@ -1,7 +1,9 @@
 //! Writing the object of a module.
-ghost use Rattle.std.specs.Prelude.{◌≡◌, IfOk};
+ghost use Rattle.std.specs.Prelude.{◌≡◌, map, IfOk};
 ghost use Rattle.gimple_ir.specs.Programs.{IsChecked};
-ghost use Rattle.lto_object.specs.Objects.{summaries_of, sections_of, object_of};
+ghost use Rattle.lto_object.specs.Objects.{summaries_of, symbols_of, sections_of, object_of};
+ghost use Rattle.lto_object.specs.SummaryStream.{summaries_bytes};
+ghost use Rattle.lto_object.specs.SymbolStream.{stored_of, symbols_bytes};
 
 use crate::bodies::encode_bodies;
 use crate::bounds::is_defined;
@@ -32,19 +34,33 @@ fn true_summaries(alloc: Global, source: &Module) -> Result<Vec<Summary>, NoMemo
     Ok(summaries)
 }
 
+fn summaries_stream(alloc: Global, source: &Module) -> Result<Vec<u8>, NoMemory>
+    requires { IsChecked source.now }
+    ensures { IfOk result (λ bytes. bytes.items ≡ summaries_bytes (summaries_of source.now)) }
+{
+    let summaries = true_summaries(alloc, source)?;
+    encode_summaries(alloc, summaries.as_slice())
+}
+
+fn symbols_stream(alloc: Global, source: &Module) -> Result<Vec<u8>, NoMemory>
+    requires { IsChecked source.now }
+    ensures { IfOk result (λ bytes. bytes.items ≡ symbols_bytes (map stored_of (symbols_of source.now))) }
+{
+    let symbols = symbols(alloc, source)?;
+    encode_symbols(alloc, symbols.as_slice())
+}
+
 #[tactic(auto, unfolding(crate::specs::Objects::sections_of))]
 fn sections_of(alloc: Global, source: &Module) -> Result<List<OwnSection>, NoMemory>
     requires { IsChecked source.now }
     ensures { IfOk result (λ sections. sections ≡ sections_of source.now) }
 {
-    let summaries = true_summaries(alloc, source)?;
-    let symbols = symbols(alloc, source)?;
     sections(
         alloc,
         encode_decls(alloc, source)?,
         encode_bodies(alloc, source.functions.as_slice())?,
-        encode_summaries(alloc, summaries.as_slice())?,
-        encode_symbols(alloc, symbols.as_slice())?,
+        summaries_stream(alloc, source)?,
+        symbols_stream(alloc, source)?,
     )
 }
 

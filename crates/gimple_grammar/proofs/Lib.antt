@@ -4,6 +4,7 @@ pub mod Lists
 pub mod Sound
 pub mod Loops
 pub mod TokenLaws
+pub mod Passing
 pub mod Operands
 pub mod PieceLaws
 pub mod StatementLaws

@@ -3,13 +3,15 @@ ghost use Rattle.std.specs.Prelude.{◌≡◌, false, true, [], ◌∷◌, IfOk}
 ghost use Rattle.gimple_tokens.specs.Tokens.{Sign, End, placed};
 ghost use Rattle.gimple_tokens.specs.Reading.{same, line_of};
 ghost use Rattle.gimple_tokens.specs.Stops.{GivesOr};
-ghost use Rattle.gimple_grammar.specs.Grammar.{◌◁◌, chain, many};
+ghost use Rattle.gimple_grammar.specs.Grammar.{◌◁◌, only, chain, many};
 ghost use Rattle.gimple_grammar.specs.Adding.{AddsOne, AddsNext};
 ghost use Rattle.gimple_grammar.specs.Pieces.{array_length, no_type};
-ghost use Rattle.gimple_grammar.specs.Items.{field_text, fields, struct_text, headed, bracket, unsigned_head, head, initial, initials, array_rest, parameter, parameters, local, body, function_rest, defined_after, defined, extern_after, external, with_linkage, item, item_line, module_text};
+ghost use Rattle.gimple_grammar.specs.Items.{field_text, fields, struct_text, headed, bracket, unsigned_head, head, initial, initials, array_rest, parameter, parameters, local, body, function_rest, defined_after, defined, extern_after, external, with_linkage, linked_of, item, item_line, module_text};
 
 use crate::parts::{Defined, Head};
-use crate::pieces::{int_or_long, is_type, literal, one_of, scalar, variable};
+use crate::pieces::{
+    int_or_long, is_type, literal, one_of, scalar, skip_sign, skip_word, variable,
+};
 use crate::statements::statements;
 use crate::syntax::{
     ArrayText, Body, Declared, FieldText, FunctionText, Item, ItemLine, Literal, Parameters,
@@ -22,20 +24,13 @@ use std::alloc::Global;
 // ---- structs
 
 #[tactic(auto, unfolding(crate::specs::Items::field_text, crate::specs::Pieces::name))]
-fn field_text<'a>(reader: &mut Reader<'a>) -> Result<FieldText<'a>, Failure>
-    ensures { GivesOr result reader.new (field_text.read reader.old) }
+fn add_field<'a>(reader: &mut Reader<'a>, found: &mut List<FieldText<'a>>) -> Result<(), Failure>
+    ensures { AddsOne result found.old found.new reader.new (field_text.read reader.old) }
 {
     let ty = scalar(reader)?;
     let name = reader.name()?;
     reader.expect_sign(Mark::Semicolon)?;
-    Ok(FieldText { ty, name })
-}
-
-fn add_field<'a>(reader: &mut Reader<'a>, found: &mut List<FieldText<'a>>) -> Result<(), Failure>
-    ensures { AddsOne result found.old found.new reader.new (field_text.read reader.old) }
-{
-    let next = field_text(reader)?;
-    found.push(next)?;
+    found.push(FieldText { ty, name })?;
     Ok(())
 }
 
@@ -88,7 +83,7 @@ fn unsigned_head<'a>(reader: &mut Reader<'a>) -> Result<Head<'a>, Failure>
     ensures { GivesOr result reader.new (unsigned_head.read reader.old) }
 {
     if reader.is_word(Keyword::Char) {
-        reader.expect_word(Keyword::Char)?;
+        skip_word(reader, Keyword::Char);
         let name = reader.name()?;
         reader.expect_sign(Mark::OpenSquare)?;
         return Ok(Head::Array(ElementType::UnsignedChar, name));
@@ -104,13 +99,13 @@ pub(crate) fn head<'a>(reader: &mut Reader<'a>) -> Result<Head<'a>, Failure>
     ensures { GivesOr result reader.new (head.read reader.old) }
 {
     if reader.is_word(Keyword::Void) {
-        reader.expect_word(Keyword::Void)?;
+        skip_word(reader, Keyword::Void);
         let name = reader.name()?;
         reader.expect_sign(Mark::OpenRound)?;
         return Ok(Head::Function(ResultType::Void, name));
     }
     if reader.is_word(Keyword::Unsigned) {
-        reader.expect_word(Keyword::Unsigned)?;
+        skip_word(reader, Keyword::Unsigned);
         return unsigned_head(reader);
     }
     let ty = int_or_long(reader)?;
@@ -159,7 +154,7 @@ fn initials(
     ensures { GivesOr result reader.new ((initials element).read reader.old) }
 {
     if reader.is_sign(Mark::Semicolon) {
-        reader.expect_sign(Mark::Semicolon)?;
+        skip_sign(reader, Mark::Semicolon);
         return Ok(List::new(alloc));
     }
     reader.expect_sign(Mark::Equals)?;
@@ -220,11 +215,11 @@ pub(crate) fn parameters<'a>(
     ensures { GivesOr result reader.new (parameters.read reader.old) }
 {
     if reader.is_sign(Mark::CloseRound) {
-        reader.expect_sign(Mark::CloseRound)?;
+        skip_sign(reader, Mark::CloseRound);
         return Ok(Parameters::None);
     }
     if reader.is_word(Keyword::Void) {
-        reader.expect_word(Keyword::Void)?;
+        skip_word(reader, Keyword::Void);
         reader.expect_sign(Mark::CloseRound)?;
         return Ok(Parameters::Void);
     }
@@ -375,6 +370,13 @@ pub(crate) fn with_linkage<'a>(linkage: Linkage, defined: Defined<'a>) -> Item<'
     }
 }
 
+fn linked<'a>(alloc: Global, reader: &mut Reader<'a>, linkage: Linkage) -> Result<Item<'a>, Failure>
+    ensures { GivesOr result reader.new ((only defined (with_linkage linkage) (linked_of linkage)).read reader.old) }
+{
+    let defined = defined(alloc, reader)?;
+    Ok(with_linkage(linkage, defined))
+}
+
 // ---- items
 
 #[tactic(auto, unfolding(crate::specs::Items::item))]
@@ -382,25 +384,22 @@ fn item<'a>(alloc: Global, reader: &mut Reader<'a>) -> Result<Item<'a>, Failure>
     ensures { GivesOr result reader.new (item.read reader.old) }
 {
     if reader.is_word(Keyword::Struct) {
-        reader.expect_word(Keyword::Struct)?;
+        skip_word(reader, Keyword::Struct);
         return Ok(Item::Struct(struct_text(alloc, reader)?));
     }
     if reader.is_word(Keyword::Extern) {
-        reader.expect_word(Keyword::Extern)?;
+        skip_word(reader, Keyword::Extern);
         return external(alloc, reader);
     }
     if reader.is_word(Keyword::Static) {
-        reader.expect_word(Keyword::Static)?;
-        let defined = defined(alloc, reader)?;
-        return Ok(with_linkage(Linkage::Static, defined));
+        skip_word(reader, Keyword::Static);
+        return linked(alloc, reader, Linkage::Static);
     }
     if reader.is_word(Keyword::Weak) {
-        reader.expect_word(Keyword::Weak)?;
-        let defined = defined(alloc, reader)?;
-        return Ok(with_linkage(Linkage::Weak, defined));
+        skip_word(reader, Keyword::Weak);
+        return linked(alloc, reader, Linkage::Weak);
     }
-    let defined = defined(alloc, reader)?;
-    Ok(with_linkage(Linkage::Strong, defined))
+    linked(alloc, reader, Linkage::Strong)
 }
 
 /// Reads an item with its line.

@@ -1,9 +1,11 @@
 // Reads items without the bodies of functions: `specs/Streams.antt`.
-ghost use Rattle.gimple_grammar.specs.Items.{function_rest, defined_after, defined, item, item_line};
+ghost use Rattle.gimple_grammar.specs.Grammar.{only};
+ghost use Rattle.gimple_grammar.specs.Items.{function_rest, defined_after, defined, with_linkage, linked_of, item, item_line};
 ghost use Rattle.gimple_grammar.specs.Streams.{without_body, outline_of, defined_outline, GivesShort};
 
 use crate::items::{array_rest, external, head, parameters, struct_text, with_linkage};
 use crate::parts::{Defined, Head};
+use crate::pieces::skip_word;
 use crate::syntax::{ArrayText, Body, FunctionText, Item, ItemLine, Parameters};
 use gimple_ir::{Linkage, List};
 use gimple_tokens::{Failure, Keyword, Mark, Reader};
@@ -60,30 +62,38 @@ fn outline_defined<'a>(alloc: Global, reader: &mut Reader<'a>) -> Result<Defined
     outline_after(alloc, reader, head)
 }
 
+fn outline_linked<'a>(
+    alloc: Global,
+    reader: &mut Reader<'a>,
+    linkage: Linkage,
+) -> Result<Item<'a>, Failure>
+    ensures { GivesShort without_body result reader.new ((only defined (with_linkage linkage) (linked_of linkage)).read reader.old) }
+{
+    let defined = outline_defined(alloc, reader)?;
+    Ok(with_linkage(linkage, defined))
+}
+
 #[tactic(auto, unfolding(crate::specs::Items::item))]
 fn outline_item<'a>(alloc: Global, reader: &mut Reader<'a>) -> Result<Item<'a>, Failure>
     ensures { GivesShort without_body result reader.new (item.read reader.old) }
 {
     if reader.is_word(Keyword::Struct) {
-        reader.expect_word(Keyword::Struct)?;
+        skip_word(reader, Keyword::Struct);
         return Ok(Item::Struct(struct_text(alloc, reader)?));
     }
     if reader.is_word(Keyword::Extern) {
-        reader.expect_word(Keyword::Extern)?;
+        skip_word(reader, Keyword::Extern);
         return external(alloc, reader);
     }
     if reader.is_word(Keyword::Static) {
-        reader.expect_word(Keyword::Static)?;
-        let defined = outline_defined(alloc, reader)?;
-        return Ok(with_linkage(Linkage::Static, defined));
+        skip_word(reader, Keyword::Static);
+        return outline_linked(alloc, reader, Linkage::Static);
     }
     if reader.is_word(Keyword::Weak) {
-        reader.expect_word(Keyword::Weak)?;
-        let defined = outline_defined(alloc, reader)?;
-        return Ok(with_linkage(Linkage::Weak, defined));
+        skip_word(reader, Keyword::Weak);
+        return outline_linked(alloc, reader, Linkage::Weak);
     }
-    let defined = outline_defined(alloc, reader)?;
-    Ok(with_linkage(Linkage::Strong, defined))
+    outline_linked(alloc, reader, Linkage::Strong)
 }
 
 /// Reads an item with its line, of a function all but its body.

@@ -5,14 +5,14 @@ use gimple_ir::{BinaryOp, ElementType, List, ResultType};
 use gimple_tokens::Identifier;
 
 /// What stands after the first operand on the right of `=`: `;` or `+ b;`.
-#[derive(Debug, Drop)]
+#[derive(Drop)]
 pub(crate) enum After<'a> {
     End,
     Binary(BinaryOp, Operand<'a>),
 }
 
 /// What stands after a name on the right of `=`.
-#[derive(Debug, Drop)]
+#[derive(Drop)]
 pub(crate) enum NameTail<'a> {
     /// `[a];`
     Load(Operand<'a>),
@@ -23,14 +23,14 @@ pub(crate) enum NameTail<'a> {
 }
 
 /// The type and the name of an array or a function, and the bracket after them: `int A [` or `int f (`.
-#[derive(Debug, Drop)]
+#[derive(Drop)]
 pub(crate) enum Head<'a> {
     Array(ElementType, Identifier<'a>),
     Function(ResultType, Identifier<'a>),
 }
 
 /// A definition without its linkage.
-#[derive(Debug, Drop)]
+#[derive(Drop)]
 pub(crate) enum Defined<'a> {
     Array(ArrayText<'a>),
     Function(FunctionText<'a>, Body<'a>),

@@ -1,8 +1,8 @@
 // Reads names, numbers, operands, types and variables: `specs/Pieces.antt`.
-ghost use Rattle.std.specs.Prelude.{◌≡◌, false, true};
-ghost use Rattle.gimple_tokens.specs.Tokens.{Sign};
-ghost use Rattle.gimple_tokens.specs.Reading.{head_of};
-ghost use Rattle.gimple_tokens.specs.Stops.{GivesOr};
+ghost use Rattle.std.specs.Prelude.{◌≡◌, false, true, Ok};
+ghost use Rattle.gimple_tokens.specs.Tokens.{Word, Sign};
+ghost use Rattle.gimple_tokens.specs.Reading.{head_of, same};
+ghost use Rattle.gimple_tokens.specs.Stops.{past, GivesOr};
 ghost use Rattle.gimple_grammar.specs.Grammar.{chain};
 ghost use Rattle.gimple_grammar.specs.Adding.{AddsNext};
 ghost use Rattle.gimple_grammar.specs.Pieces.{literal, field_at, place, operand, one_of, argument, arguments, long, int_or_long, scalar, variable, is_type};
@@ -11,6 +11,22 @@ use crate::syntax::{Declared, Literal, Operand, Place, Type};
 use gimple_ir::{List, ScalarType};
 use gimple_tokens::{Failure, Identifier, Keyword, Mark, NumberPlace, Reader};
 use std::alloc::Global;
+
+/// Passes over a sign that stands first.
+pub(crate) fn skip_sign(reader: &mut Reader<'_>, mark: Mark)
+    requires { same (Sign mark) (head_of reader.old) ≡ true }
+    ensures { past (Sign mark) reader.old ≡ Ok reader.new }
+{
+    reader.pass_sign(mark);
+}
+
+/// Passes over a keyword that stands first.
+pub(crate) fn skip_word(reader: &mut Reader<'_>, word: Keyword)
+    requires { same (Word word) (head_of reader.old) ≡ true }
+    ensures { past (Word word) reader.old ≡ Ok reader.new }
+{
+    reader.pass_word(word);
+}
 
 /// Reads a number that may stand at a place, with `-` before it or not.
 #[tactic(auto, unfolding(crate::specs::Pieces::literal, crate::specs::Pieces::number))]
@@ -34,7 +50,7 @@ fn field<'a>(reader: &mut Reader<'a>) -> Result<Option<Identifier<'a>>, Failure>
     ensures { GivesOr result reader.new (field_at reader.old) }
 {
     if reader.is_sign(Mark::Dot) {
-        reader.expect_sign(Mark::Dot)?;
+        skip_sign(reader, Mark::Dot);
         return Ok(Some(reader.name()?));
     }
     Ok(None)
@@ -67,7 +83,7 @@ pub(crate) fn one_of(reader: &mut Reader<'_>, first: Mark, second: Mark) -> Resu
     ensures { GivesOr result reader.new ((one_of (Sign first) (Sign second)).read reader.old) }
 {
     if reader.is_sign(first) {
-        reader.expect_sign(first)?;
+        skip_sign(reader, first);
         return Ok(true);
     }
     reader.expect_sign(second)?;
@@ -104,7 +120,7 @@ pub(crate) fn arguments<'a>(
     ensures { GivesOr result reader.new (arguments.read reader.old) }
 {
     if reader.is_sign(Mark::CloseRound) {
-        reader.expect_sign(Mark::CloseRound)?;
+        skip_sign(reader, Mark::CloseRound);
         return Ok(List::new(alloc));
     }
     some_arguments(alloc, reader)
@@ -115,7 +131,7 @@ fn long(reader: &mut Reader<'_>) -> Result<ScalarType, Failure>
     ensures { GivesOr result reader.new (long.read reader.old) }
 {
     if reader.is_word(Keyword::Int) {
-        reader.expect_word(Keyword::Int)?;
+        skip_word(reader, Keyword::Int);
         return Ok(ScalarType::LongInt);
     }
     reader.expect_word(Keyword::Unsigned)?;
@@ -129,7 +145,7 @@ pub(crate) fn int_or_long(reader: &mut Reader<'_>) -> Result<ScalarType, Failure
     ensures { GivesOr result reader.new (int_or_long.read reader.old) }
 {
     if reader.is_word(Keyword::Int) {
-        reader.expect_word(Keyword::Int)?;
+        skip_word(reader, Keyword::Int);
         return Ok(ScalarType::Int);
     }
     reader.expect_word(Keyword::Long)?;
@@ -142,7 +158,7 @@ pub(crate) fn scalar(reader: &mut Reader<'_>) -> Result<ScalarType, Failure>
     ensures { GivesOr result reader.new (scalar.read reader.old) }
 {
     if reader.is_word(Keyword::Unsigned) {
-        reader.expect_word(Keyword::Unsigned)?;
+        skip_word(reader, Keyword::Unsigned);
         reader.expect_word(Keyword::Int)?;
         return Ok(ScalarType::UnsignedInt);
     }
@@ -155,7 +171,7 @@ pub(crate) fn variable<'a>(reader: &mut Reader<'a>) -> Result<Declared<'a>, Fail
     ensures { GivesOr result reader.new (variable.read reader.old) }
 {
     if reader.is_word(Keyword::Struct) {
-        reader.expect_word(Keyword::Struct)?;
+        skip_word(reader, Keyword::Struct);
         let tag = reader.name()?;
         let name = reader.name()?;
         return Ok(Declared {

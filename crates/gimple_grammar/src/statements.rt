@@ -6,10 +6,10 @@ ghost use Rattle.gimple_tokens.specs.Stops.{GivesOr};
 ghost use Rattle.gimple_grammar.specs.Grammar.{◌▷◌, ◌◁◌, ◌then◌, only, many};
 ghost use Rattle.gimple_grammar.specs.Adding.{AddsOne};
 ghost use Rattle.gimple_grammar.specs.Pieces.{number, operand};
-ghost use Rattle.gimple_grammar.specs.Statements.{after, value_of, number_made, number_parts, negative, store_made, store_of, name_tail, named_by, right, tail, branches, condition, case_label, cases, selection, returned, form, statement, statements};
+ghost use Rattle.gimple_grammar.specs.Statements.{after, value_of, number_made, number_parts, negative, store_made, store_of, name_tail, named_by, right, tail, branches, condition, case_label, cases, selection, returned, if_of, switch_of, return_of, form, statement, statements};
 
 use crate::parts::{After, NameTail};
-use crate::pieces::{arguments, literal, operand, place, scalar};
+use crate::pieces::{arguments, literal, operand, place, scalar, skip_sign, skip_word};
 use crate::syntax::{
     Binary, CaseLabel, Choice, Condition, Form, Line, Literal, Operand, Place, Right, Tail,
 };
@@ -24,7 +24,7 @@ fn after<'a>(reader: &mut Reader<'a>) -> Result<After<'a>, Failure>
     ensures { GivesOr result reader.new (after.read reader.old) }
 {
     if reader.is_sign(Mark::Semicolon) {
-        reader.expect_sign(Mark::Semicolon)?;
+        skip_sign(reader, Mark::Semicolon);
         return Ok(After::End);
     }
     let op = reader.operator()?;
@@ -68,7 +68,7 @@ fn negative<'a>(reader: &mut Reader<'a>) -> Result<Right<'a>, Failure>
         return Ok(Right::Negate(Operand::Place(place)));
     }
     if reader.is_sign(Mark::Minus) {
-        reader.expect_sign(Mark::Minus)?;
+        skip_sign(reader, Mark::Minus);
         let (number, suffix) = reader.number_at(NumberPlace::Literal, true)?;
         reader.expect_sign(Mark::Semicolon)?;
         return Ok(Right::Negate(Operand::Literal(Literal {
@@ -85,20 +85,20 @@ fn name_tail<'a>(alloc: Global, reader: &mut Reader<'a>) -> Result<NameTail<'a>,
     ensures { GivesOr result reader.new (name_tail.read reader.old) }
 {
     if reader.is_sign(Mark::OpenSquare) {
-        reader.expect_sign(Mark::OpenSquare)?;
+        skip_sign(reader, Mark::OpenSquare);
         let index = operand(reader)?;
         reader.expect_sign(Mark::CloseSquare)?;
         reader.expect_sign(Mark::Semicolon)?;
         return Ok(NameTail::Load(index));
     }
     if reader.is_sign(Mark::OpenRound) {
-        reader.expect_sign(Mark::OpenRound)?;
+        skip_sign(reader, Mark::OpenRound);
         let arguments = arguments(alloc, reader)?;
         reader.expect_sign(Mark::Semicolon)?;
         return Ok(NameTail::Call(arguments));
     }
     if reader.is_sign(Mark::Dot) {
-        reader.expect_sign(Mark::Dot)?;
+        skip_sign(reader, Mark::Dot);
         let field = reader.name()?;
         let after = after(reader)?;
         return Ok(NameTail::Value(Some(field), after));
@@ -122,13 +122,13 @@ fn right<'a>(alloc: Global, reader: &mut Reader<'a>) -> Result<Right<'a>, Failur
     ensures { GivesOr result reader.new (right.read reader.old) }
 {
     if reader.is_sign(Mark::Tilde) {
-        reader.expect_sign(Mark::Tilde)?;
+        skip_sign(reader, Mark::Tilde);
         let of = operand(reader)?;
         reader.expect_sign(Mark::Semicolon)?;
         return Ok(Right::Complement(of));
     }
     if reader.is_sign(Mark::OpenRound) {
-        reader.expect_sign(Mark::OpenRound)?;
+        skip_sign(reader, Mark::OpenRound);
         let ty = scalar(reader)?;
         reader.expect_sign(Mark::CloseRound)?;
         let of = operand(reader)?;
@@ -136,7 +136,7 @@ fn right<'a>(alloc: Global, reader: &mut Reader<'a>) -> Result<Right<'a>, Failur
         return Ok(Right::Convert(ty, of));
     }
     if reader.is_sign(Mark::Minus) {
-        reader.expect_sign(Mark::Minus)?;
+        skip_sign(reader, Mark::Minus);
         return negative(reader);
     }
     if reader.has_name() {
@@ -154,11 +154,11 @@ fn tail<'a>(alloc: Global, reader: &mut Reader<'a>) -> Result<Tail<'a>, Failure>
     ensures { GivesOr result reader.new (tail.read reader.old) }
 {
     if reader.is_sign(Mark::Colon) {
-        reader.expect_sign(Mark::Colon)?;
+        skip_sign(reader, Mark::Colon);
         return Ok(Tail::Label);
     }
     if reader.is_sign(Mark::OpenRound) {
-        reader.expect_sign(Mark::OpenRound)?;
+        skip_sign(reader, Mark::OpenRound);
         let arguments = arguments(alloc, reader)?;
         reader.expect_sign(Mark::Semicolon)?;
         return Ok(Tail::Call(arguments));
@@ -167,7 +167,7 @@ fn tail<'a>(alloc: Global, reader: &mut Reader<'a>) -> Result<Tail<'a>, Failure>
         return store(reader);
     }
     if reader.is_sign(Mark::Dot) {
-        reader.expect_sign(Mark::Dot)?;
+        skip_sign(reader, Mark::Dot);
         let field = reader.name()?;
         reader.expect_sign(Mark::Equals)?;
         return Ok(Tail::AssignField(field, right(alloc, reader)?));
@@ -206,8 +206,8 @@ fn branches<'a>(reader: &mut Reader<'a>) -> Result<(Identifier<'a>, Identifier<'
 }
 
 #[tactic(auto, unfolding(crate::specs::Statements::condition, crate::specs::Pieces::operator))]
-fn condition<'a>(reader: &mut Reader<'a>) -> Result<Condition<'a>, Failure>
-    ensures { GivesOr result reader.new (condition.read reader.old) }
+fn condition<'a>(reader: &mut Reader<'a>) -> Result<Form<'a>, Failure>
+    ensures { GivesOr result reader.new ((only condition Form.If if_of).read reader.old) }
 {
     reader.expect_sign(Mark::OpenRound)?;
     let left = operand(reader)?;
@@ -215,32 +215,25 @@ fn condition<'a>(reader: &mut Reader<'a>) -> Result<Condition<'a>, Failure>
     let right = operand(reader)?;
     reader.expect_sign(Mark::CloseRound)?;
     let (met, missed) = branches(reader)?;
-    Ok(Condition {
+    Ok(Form::If(Condition {
         left,
         op,
         right,
         met,
         missed,
-    })
+    }))
 }
 
 #[tactic(auto, unfolding(crate::specs::Statements::case_label, crate::specs::Pieces::name))]
-fn case_label<'a>(reader: &mut Reader<'a>) -> Result<CaseLabel<'a>, Failure>
-    ensures { GivesOr result reader.new (case_label.read reader.old) }
+fn add_case<'a>(reader: &mut Reader<'a>, found: &mut List<CaseLabel<'a>>) -> Result<(), Failure>
+    ensures { AddsOne result found.old found.new reader.new (case_label.read reader.old) }
 {
     reader.expect_sign(Mark::Comma)?;
     reader.expect_word(Keyword::Case)?;
     let value = literal(reader, NumberPlace::Literal)?;
     reader.expect_sign(Mark::Colon)?;
     let label = reader.name()?;
-    Ok(CaseLabel { value, label })
-}
-
-fn add_case<'a>(reader: &mut Reader<'a>, found: &mut List<CaseLabel<'a>>) -> Result<(), Failure>
-    ensures { AddsOne result found.old found.new reader.new (case_label.read reader.old) }
-{
-    let next = case_label(reader)?;
-    found.push(next)?;
+    found.push(CaseLabel { value, label })?;
     Ok(())
 }
 
@@ -255,8 +248,8 @@ fn more_cases<'a>(alloc: Global, reader: &mut Reader<'a>) -> Result<List<CaseLab
 }
 
 #[tactic(auto, unfolding(crate::specs::Statements::selection, crate::specs::Statements::cases, crate::specs::Pieces::name))]
-fn selection<'a>(alloc: Global, reader: &mut Reader<'a>) -> Result<Choice<'a>, Failure>
-    ensures { GivesOr result reader.new (selection.read reader.old) }
+fn selection<'a>(alloc: Global, reader: &mut Reader<'a>) -> Result<Form<'a>, Failure>
+    ensures { GivesOr result reader.new ((only selection Form.Switch switch_of).read reader.old) }
 {
     reader.expect_sign(Mark::OpenRound)?;
     let on = operand(reader)?;
@@ -268,24 +261,24 @@ fn selection<'a>(alloc: Global, reader: &mut Reader<'a>) -> Result<Choice<'a>, F
     let cases = more_cases(alloc, reader)?;
     reader.expect_sign(Mark::Greater)?;
     reader.expect_sign(Mark::Semicolon)?;
-    Ok(Choice {
+    Ok(Form::Switch(Choice {
         on,
         otherwise,
         cases,
-    })
+    }))
 }
 
 #[tactic(auto, unfolding(crate::specs::Statements::returned))]
-fn returned<'a>(reader: &mut Reader<'a>) -> Result<Option<Operand<'a>>, Failure>
-    ensures { GivesOr result reader.new (returned.read reader.old) }
+fn returned<'a>(reader: &mut Reader<'a>) -> Result<Form<'a>, Failure>
+    ensures { GivesOr result reader.new ((only returned Form.Return return_of).read reader.old) }
 {
     if reader.is_sign(Mark::Semicolon) {
-        reader.expect_sign(Mark::Semicolon)?;
-        return Ok(None);
+        skip_sign(reader, Mark::Semicolon);
+        return Ok(Form::Return(None));
     }
     let value = operand(reader)?;
     reader.expect_sign(Mark::Semicolon)?;
-    Ok(Some(value))
+    Ok(Form::Return(Some(value)))
 }
 
 // ---- statements
@@ -295,26 +288,26 @@ fn form<'a>(alloc: Global, reader: &mut Reader<'a>) -> Result<Form<'a>, Failure>
     ensures { GivesOr result reader.new (form.read reader.old) }
 {
     if reader.is_sign(Mark::Semicolon) {
-        reader.expect_sign(Mark::Semicolon)?;
+        skip_sign(reader, Mark::Semicolon);
         return Ok(Form::Empty);
     }
     if reader.is_word(Keyword::Goto) {
-        reader.expect_word(Keyword::Goto)?;
+        skip_word(reader, Keyword::Goto);
         let label = reader.name()?;
         reader.expect_sign(Mark::Semicolon)?;
         return Ok(Form::Goto(label));
     }
     if reader.is_word(Keyword::If) {
-        reader.expect_word(Keyword::If)?;
-        return Ok(Form::If(condition(reader)?));
+        skip_word(reader, Keyword::If);
+        return condition(reader);
     }
     if reader.is_word(Keyword::Switch) {
-        reader.expect_word(Keyword::Switch)?;
-        return Ok(Form::Switch(selection(alloc, reader)?));
+        skip_word(reader, Keyword::Switch);
+        return selection(alloc, reader);
     }
     if reader.is_word(Keyword::Return) {
-        reader.expect_word(Keyword::Return)?;
-        return Ok(Form::Return(returned(reader)?));
+        skip_word(reader, Keyword::Return);
+        return returned(reader);
     }
     let name = reader.name()?;
     let tail = tail(alloc, reader)?;
@@ -322,14 +315,6 @@ fn form<'a>(alloc: Global, reader: &mut Reader<'a>) -> Result<Form<'a>, Failure>
 }
 
 #[tactic(auto, unfolding(crate::specs::Statements::statement))]
-fn statement<'a>(alloc: Global, reader: &mut Reader<'a>) -> Result<Line<'a>, Failure>
-    ensures { GivesOr result reader.new (statement.read reader.old) }
-{
-    let line = reader.line();
-    let form = form(alloc, reader)?;
-    Ok(Line { line, form })
-}
-
 fn add_statement<'a>(
     alloc: Global,
     reader: &mut Reader<'a>,
@@ -337,8 +322,9 @@ fn add_statement<'a>(
 ) -> Result<(), Failure>
     ensures { AddsOne result found.old found.new reader.new (statement.read reader.old) }
 {
-    let next = statement(alloc, reader)?;
-    found.push(next)?;
+    let line = reader.line();
+    let form = form(alloc, reader)?;
+    found.push(Line { line, form })?;
     Ok(())
 }
 

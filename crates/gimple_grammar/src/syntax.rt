@@ -12,21 +12,21 @@ pub struct Literal {
 }
 
 /// A variable, or a field of one: `a` or `a.f`.
-#[derive(Debug, Drop)]
+#[derive(Drop)]
 pub struct Place<'a> {
     pub name: Identifier<'a>,
     pub field: Option<Identifier<'a>>,
 }
 
 /// What is read or passed.
-#[derive(Debug, Drop)]
+#[derive(Drop)]
 pub enum Operand<'a> {
     Place(Place<'a>),
     Literal(Literal),
 }
 
 /// `a + b`.
-#[derive(Debug, Drop)]
+#[derive(Drop)]
 pub struct Binary<'a> {
     pub left: Operand<'a>,
     pub op: BinaryOp,
@@ -34,7 +34,7 @@ pub struct Binary<'a> {
 }
 
 /// What stands after `=`. A `-` before a number belongs to the literal.
-#[derive(Debug, Drop)]
+#[derive(Drop)]
 pub enum Right<'a> {
     /// `a;`
     Value(Operand<'a>),
@@ -53,7 +53,7 @@ pub enum Right<'a> {
 }
 
 /// What stands after a name that begins a statement.
-#[derive(Debug, Drop)]
+#[derive(Drop)]
 pub enum Tail<'a> {
     /// `:`
     Label,
@@ -68,7 +68,7 @@ pub enum Tail<'a> {
 }
 
 /// `if (left op right) goto met; else goto missed;`, with any binary operator.
-#[derive(Debug, Drop)]
+#[derive(Drop)]
 pub struct Condition<'a> {
     pub left: Operand<'a>,
     pub op: BinaryOp,
@@ -78,14 +78,14 @@ pub struct Condition<'a> {
 }
 
 /// `case value: label`.
-#[derive(Debug, Drop)]
+#[derive(Drop)]
 pub struct CaseLabel<'a> {
     pub value: Literal,
     pub label: Identifier<'a>,
 }
 
 /// `switch (on) <default: otherwise, case 1: M>;`. There may be no case.
-#[derive(Debug, Drop)]
+#[derive(Drop)]
 pub struct Choice<'a> {
     pub on: Operand<'a>,
     pub otherwise: Identifier<'a>,
@@ -93,7 +93,7 @@ pub struct Choice<'a> {
 }
 
 /// A statement or a label.
-#[derive(Debug, Drop)]
+#[derive(Drop)]
 pub enum Form<'a> {
     /// `;`
     Empty,
@@ -108,42 +108,42 @@ pub enum Form<'a> {
 }
 
 /// A statement and the line of its first token, from 1.
-#[derive(Debug, Drop)]
+#[derive(Drop)]
 pub struct Line<'a> {
     pub line: u32,
     pub form: Form<'a>,
 }
 
 /// The type of a variable; a struct by its name.
-#[derive(Debug, Drop)]
+#[derive(Drop)]
 pub enum Type<'a> {
     Scalar(ScalarType),
     Struct(Identifier<'a>),
 }
 
 /// A variable: `int x` or `struct p s`.
-#[derive(Debug, Drop)]
+#[derive(Drop)]
 pub struct Declared<'a> {
     pub ty: Type<'a>,
     pub name: Identifier<'a>,
 }
 
 /// A field of a struct: `int x;`.
-#[derive(Debug, Drop)]
+#[derive(Drop)]
 pub struct FieldText<'a> {
     pub ty: ScalarType,
     pub name: Identifier<'a>,
 }
 
 /// `struct p { int x; int y; };`.
-#[derive(Debug, Drop)]
+#[derive(Drop)]
 pub struct StructText<'a> {
     pub name: Identifier<'a>,
     pub fields: List<FieldText<'a>>,
 }
 
 /// `int A[4] = {1, 2};`. The initial values are empty where no `=` stands, and only there.
-#[derive(Debug, Drop)]
+#[derive(Drop)]
 pub struct ArrayText<'a> {
     pub element: ElementType,
     pub name: Identifier<'a>,
@@ -153,7 +153,7 @@ pub struct ArrayText<'a> {
 }
 
 /// What stands between the brackets after a function's name: nothing, `void`, or one variable at least.
-#[derive(Debug, Drop)]
+#[derive(Drop)]
 pub enum Parameters<'a> {
     None,
     Void,
@@ -161,7 +161,7 @@ pub enum Parameters<'a> {
 }
 
 /// The head of a function: `int f (int a, struct p b)`.
-#[derive(Debug, Drop)]
+#[derive(Drop)]
 pub struct FunctionText<'a> {
     pub result: ResultType,
     pub name: Identifier<'a>,
@@ -169,14 +169,14 @@ pub struct FunctionText<'a> {
 }
 
 /// What stands between the braces of a function.
-#[derive(Debug, Drop)]
+#[derive(Drop)]
 pub struct Body<'a> {
     pub locals: List<Declared<'a>>,
     pub lines: List<Line<'a>>,
 }
 
 /// A declaration, or a definition with its linkage, which is not `Extern`.
-#[derive(Debug, Drop)]
+#[derive(Drop)]
 pub enum Item<'a> {
     Struct(StructText<'a>),
     /// Without initial values.
@@ -187,7 +187,7 @@ pub enum Item<'a> {
 }
 
 /// An item and the line of its first token, from 1.
-#[derive(Debug, Drop)]
+#[derive(Drop)]
 pub struct ItemLine<'a> {
     pub line: u32,
     pub item: Item<'a>,

@@ -1,0 +1,84 @@
+//! `objects HOW SEED COUNT TIMES` generates the modules of COUNT functions from the seed, prints each as a text of its own and
+//! makes its object. Then it makes each object from its text again TIMES times (`lgen`), or each text from its object (`show`).
+//! It says how many bytes the texts and the objects have, and how many were made again and differ.
+ghost use Rattle.std.specs.Prelude.{◌<◌, ◌-◌, ◌^◌, length};
+ghost use Rattle.gimple_syntax.specs.Reading.{SpellsModule};
+
+use crate::words::Words;
+use anyhow::{Result, bail};
+use gimple_ir::{Module, NoMemory};
+use gimple_print::print_module;
+use gimple_syntax::read_module;
+use lto_object::{lgen, read_object};
+use std::alloc::Global;
+use text_laws::read_is_checked;
+
+pub fn measure(rt: &HostRuntime, words: &mut Words) -> Result<()> {
+    let how = words.text()?;
+    let modules = words.modules(rt.alloc())?;
+    let times = words.count()?;
+    let (mut texts, mut objects, mut differ) = (0usize, 0usize, 0u64);
+    for source in modules.as_slice() {
+        let text = print_module(rt.alloc(), source)?;
+        let object = object_of(rt.alloc(), &text)?;
+        texts = texts.saturating_add(text.len());
+        objects = objects.saturating_add(object.len());
+        let found = if how.as_str() == "show" {
+            texts_differ(rt.alloc(), &object, &text, times)?
+        } else {
+            objects_differ(rt.alloc(), &text, &object, times)?
+        };
+        differ = differ.saturating_add(found);
+    }
+    println!(rt; "{texts} bytes of text, {objects} of objects, {differ} differ")?;
+    Ok(())
+}
+
+/// The object of a text.
+pub fn object_of(alloc: Global, text: &[u8]) -> Result<Vec<u8>> {
+    if text.len() >= u32::MAX as usize {
+        bail!("a text has more than 2^32 - 2 bytes");
+    }
+    let source = read_module(alloc, text)?;
+    Ok(spelled_object(alloc, text, &source)?)
+}
+
+/// The object of a module that a text spells.
+fn spelled_object(alloc: Global, text: &[u8], source: &Module) -> Result<Vec<u8>, NoMemory>
+    requires short { length text.now < 2 ^ 32 - 1 }
+    requires spelled { SpellsModule text.now source.now }
+{
+    read_is_checked();
+    lgen(alloc, source)
+}
+
+/// The text of an object's module.
+fn text_of(alloc: Global, object: &[u8]) -> Result<Vec<u8>> {
+    if object.len() >= u32::MAX as usize {
+        bail!("an object has more than 2^32 - 2 bytes");
+    }
+    let found = read_object(alloc, object)?;
+    Ok(print_module(alloc, found.module())?)
+}
+
+/// How many of so many objects of the text are another one.
+fn objects_differ(alloc: Global, text: &[u8], object: &[u8], times: u32) -> Result<u64> {
+    let mut differ = 0u64;
+    for _ in 0..times {
+        if object_of(alloc, text)?.as_slice() != object {
+            differ = differ.saturating_add(1);
+        }
+    }
+    Ok(differ)
+}
+
+/// How many of so many texts of the object are another one.
+fn texts_differ(alloc: Global, object: &[u8], text: &[u8], times: u32) -> Result<u64> {
+    let mut differ = 0u64;
+    for _ in 0..times {
+        if text_of(alloc, object)?.as_slice() != text {
+            differ = differ.saturating_add(1);
+        }
+    }
+    Ok(differ)
+}

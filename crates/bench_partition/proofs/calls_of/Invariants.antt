@@ -1,6 +1,0 @@
-use Rattle.std.proofs.Common.{All}
-use Rattle.balanced_partition.specs.Cuts.{IsBetween}
-use Rattle.bench_partition.proofs.calls_of.Given as goal
-
-abbrev pub invariant-loop : goal.invariant-loop
-invariant-loop l = All (IsBetween l.versions) l.calls.items

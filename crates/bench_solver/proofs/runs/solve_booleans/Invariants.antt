@@ -1,4 +1,0 @@
-use Rattle.bench_solver.proofs.runs.solve_booleans.Given as goal
-
-abbrev pub ghosts-booleans_by : goal.ghosts-booleans_by
-ghosts-booleans_by a = record { name = a.blank.name; parts = a.blank.parts }

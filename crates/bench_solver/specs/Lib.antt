@@ -1,4 +1,0 @@
-pub mod Booleans
-pub mod BooleanLaws
-pub mod Constants
-pub mod ConstantLaws

@@ -1,5 +1,5 @@
 //! `locking HOW THREADS COUNT`: `claims` draws so many numbers from claims, `cell` makes so many calls on one shared cell. So many
-//! threads share the work, 64 at most.
+//! threads share the work, 1 at least and 64 at most.
 ghost use Rattle.std.specs.Prelude.{◌≤◌, ◌<◌};
 
 mod calling;
@@ -8,7 +8,7 @@ mod drawing;
 use self::calling::called_by;
 use self::drawing::drawn_by;
 use crate::words::Words;
-use anyhow::{Result, bail};
+use anyhow::Result;
 use std::sync::Wait;
 use std::thread::Threads;
 
@@ -18,11 +18,8 @@ pub fn measure<R: Threads + Wait + Sync>(
     words: &mut Words,
 ) -> Result<()> {
     let how = words.text()?;
-    let threads = words.count()?;
+    let threads = words.count()?.max(1).min(64);
     let count = words.count()?;
-    if threads == 0 || threads > 64 {
-        bail!("1 to 64 threads");
-    }
     if how.as_str() == "claims" {
         let drawn = drawn_by(forks, rt.alloc(), threads, count)?;
         println!(rt; "{drawn} numbers drawn by {threads} threads")?;

@@ -13,25 +13,52 @@ use lto_object::{lgen, read_object};
 use std::alloc::Global;
 use text_laws::read_is_checked;
 
+/// How many bytes texts and objects have, and how many were made again and differ.
+#[derive(Drop)]
+struct Made {
+    text: usize,
+    object: usize,
+    differ: u64,
+}
+
 pub fn measure(rt: &HostRuntime, words: &mut Words) -> Result<()> {
     let how = words.text()?;
     let modules = words.modules(rt.alloc())?;
     let times = words.count()?;
-    let (mut texts, mut objects, mut differ) = (0usize, 0usize, 0u64);
+    let mut all = Made {
+        text: 0,
+        object: 0,
+        differ: 0,
+    };
     for source in modules.as_slice() {
-        let text = print_module(rt.alloc(), source)?;
-        let object = object_of(rt.alloc(), &text)?;
-        texts = texts.saturating_add(text.len());
-        objects = objects.saturating_add(object.len());
-        let found = if how.as_str() == "show" {
-            texts_differ(rt.alloc(), &object, &text, times)?
-        } else {
-            objects_differ(rt.alloc(), &text, &object, times)?
-        };
-        differ = differ.saturating_add(found);
+        let made = made_again(rt.alloc(), how.as_str(), source, times)?;
+        all.text = all.text.saturating_add(made.text);
+        all.object = all.object.saturating_add(made.object);
+        all.differ = all.differ.saturating_add(made.differ);
     }
-    println!(rt; "{texts} bytes of text, {objects} of objects, {differ} differ")?;
+    let Made {
+        text,
+        object,
+        differ,
+    } = all;
+    println!(rt; "{text} bytes of text, {object} of objects, {differ} differ")?;
     Ok(())
+}
+
+/// Makes the text and the object of a module, and one of them again so many times.
+fn made_again(alloc: Global, how: &str, source: &Module, times: u32) -> Result<Made> {
+    let text = print_module(alloc, source)?;
+    let object = object_of(alloc, &text)?;
+    let differ = if how == "show" {
+        texts_differ(alloc, &object, &text, times)?
+    } else {
+        objects_differ(alloc, &text, &object, times)?
+    };
+    Ok(Made {
+        text: text.len(),
+        object: object.len(),
+        differ,
+    })
 }
 
 /// The object of a text.

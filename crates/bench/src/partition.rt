@@ -4,17 +4,14 @@ ghost use Rattle.std.specs.Prelude.{◌≡◌, ◌^◌, ◌<◌, All, IfOk, leng
 ghost use Rattle.balanced_partition.specs.Cuts.{IsBetween};
 
 use crate::words::Words;
-use anyhow::{Result, bail};
+use anyhow::Result;
 use balanced_partition::{NoMemory, cut};
 use std::alloc::Global;
 
 pub fn measure(rt: &HostRuntime, words: &mut Words) -> Result<()> {
-    let versions = words.count()?;
+    let versions = words.count()?.max(1);
     let calls = words.count()?;
-    let wanted = words.count()?;
-    if versions == 0 || wanted == 0 {
-        bail!("there are no versions, or no partitions");
-    }
+    let wanted = words.count()?.max(1);
     let sizes = sizes_of(rt.alloc(), versions)?;
     let calls = calls_of(rt.alloc(), versions, calls)?;
     let ranges = cut(rt.alloc(), sizes.as_slice(), calls.as_slice(), wanted)?;

@@ -18,19 +18,30 @@ pub fn measure(rt: &HostRuntime, words: &mut Words) -> Result<()> {
     let how = words.text()?;
     let modules = words.modules(rt.alloc())?;
     let times = words.count()?;
-    let mut failed = 0u64;
-    let mut bytes = 0u64;
+    let (mut bytes, mut failed) = (0u64, 0u64);
     for module in modules.as_slice() {
-        let streams = written(rt.alloc(), module)?;
-        bytes = bytes.saturating_add(size_of_streams(&streams));
-        if how.as_str() == "decode" {
-            failed = failed.saturating_add(readings_failed(rt.alloc(), &streams, times));
-        } else {
-            write_again(rt.alloc(), module, times)?;
-        }
+        let (long, bad) = gone_over(rt.alloc(), how.as_str(), module, times)?;
+        bytes = bytes.saturating_add(long);
+        failed = failed.saturating_add(bad);
     }
     println!(rt; "{bytes} bytes, {failed} failed")?;
     Ok(())
+}
+
+/// Writes or reads the streams of a module so many times; gives how many bytes they have, and how many readings failed.
+fn gone_over(
+    alloc: Global,
+    how: &str,
+    source: &Module,
+    times: u32,
+) -> Result<(u64, u64), NoMemory> {
+    let streams = written(alloc, source)?;
+    let bytes = size_of_streams(&streams);
+    if how == "decode" {
+        return Ok((bytes, readings_failed(alloc, &streams, times)));
+    }
+    write_again(alloc, source, times)?;
+    Ok((bytes, 0))
 }
 
 /// Small counts of a module that was generated.

@@ -11,22 +11,33 @@ use std::alloc::{AllocError, Global};
 use workload_gen::generate;
 
 pub fn measure(rt: &HostRuntime, words: &mut Words) -> Result<()> {
-    let seed = words.text()?;
+    let texts = words.text()?;
     let count = words.count()?;
     let times = words.count()?;
-    if seed.as_str() == "one" {
-        let text = large_text(rt.alloc(), count)?;
-        read_often(rt.alloc(), text.as_bytes(), times)?;
-        println!(rt; "one text, {} bytes", text.len())?;
-        return Ok(());
-    }
-    let modules = generate(rt.alloc(), seed.parse::<u64>()?, count)?;
+    let bytes = if texts.as_str() == "one" {
+        large_read(rt.alloc(), count, times)?
+    } else {
+        generated_read(rt.alloc(), texts.parse::<u64>()?, count, times)?
+    };
+    println!(rt; "{bytes} bytes of text")?;
+    Ok(())
+}
+
+/// The number of bytes of the one text, which is read so many times.
+fn large_read(alloc: Global, count: u32, times: u32) -> Result<usize> {
+    let text = large_text(alloc, count)?;
+    read_often(alloc, text.as_bytes(), times)?;
+    Ok(text.len())
+}
+
+/// The number of bytes of the generated texts, each of which is read so many times.
+fn generated_read(alloc: Global, seed: u64, count: u32, times: u32) -> Result<usize> {
+    let modules = generate(alloc, seed, count)?;
     let mut bytes: usize = 0;
     for source in modules.as_slice() {
-        bytes = bytes.saturating_add(printed_and_read(rt.alloc(), source, times)?);
+        bytes = bytes.saturating_add(printed_and_read(alloc, source, times)?);
     }
-    println!(rt; "{} modules, {bytes} bytes", modules.len())?;
-    Ok(())
+    Ok(bytes)
 }
 
 /// The number of bytes of the module's text, which is read so many times.

@@ -4,6 +4,7 @@
 //! each file how many rows it has and in how many of them that is so. `lines.rt` says what the lines of a file are.
 #![tactic(auto)]
 
+mod changes;
 mod files;
 mod lines;
 mod stage;

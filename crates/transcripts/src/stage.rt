@@ -11,6 +11,7 @@ pub struct Stage {
     files: Files,
     failing_calls: Vec<u64>,
     failing_puts: Vec<u64>,
+    again: Vec<u8>,
     before: Vec<u8>,
     behind: Vec<u8>,
     left: MemoryFiles,
@@ -30,6 +31,7 @@ impl Stage {
             files: Vec::new(alloc),
             failing_calls: Vec::new(alloc),
             failing_puts: Vec::new(alloc),
+            again: Vec::new(alloc),
             before: Vec::new(alloc),
             behind: Vec::new(alloc),
             left: MemoryFiles::new(Vec::new(alloc), Vec::new(alloc)),
@@ -82,6 +84,18 @@ impl Stage {
         held(&mut self.files, name)
     }
 
+    /// Puts another number in the place of a byte of a file, and gives the one that stood there.
+    pub fn replace(&mut self, name: &str, offset: usize, number: u8) -> Result<u8> {
+        match self.file(name)?.get_mut(offset) {
+            Some(place) => {
+                let before = *place;
+                *place = number;
+                Ok(before)
+            }
+            None => bail!("{name} has no byte {offset}"),
+        }
+    }
+
     // ---- texts
 
     /// The texts of rows stand behind what the line spells.
@@ -125,6 +139,19 @@ impl Stage {
         self.end()?;
         self.run(alloc, line)?;
         self.open = true;
+        Ok(())
+    }
+
+    /// Sets the command that rows do over files that are changed.
+    pub fn set_again(&mut self, alloc: Global, line: &str) -> Result<()> {
+        self.again = Vec::from_slice(alloc, line.as_bytes())?;
+        Ok(())
+    }
+
+    /// Does the command of such rows.
+    pub fn again(&mut self, alloc: Global) -> Result<()> {
+        let line = Vec::from_slice(alloc, &self.again)?;
+        self.run(alloc, str::from_utf8(&line)?)?;
         Ok(())
     }
 
@@ -184,9 +211,9 @@ impl Stage {
         self.status == status && self.printed.as_slice() == self.wanted.as_slice()
     }
 
-    /// Whether the last command answered this, and printed this line.
-    pub fn printed(&self, status: u8, line: &str) -> bool {
-        self.status == status && self.printed.as_slice() == line.as_bytes()
+    /// Whether the last command answered this, and printed these bytes.
+    pub fn printed(&self, status: u8, bytes: &[u8]) -> bool {
+        self.status == status && self.printed.as_slice() == bytes
     }
 
     /// Whether a file was left with these bytes.

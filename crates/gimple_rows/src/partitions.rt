@@ -1,114 +1,122 @@
-//! Worked rows, and all small inputs against cuts that look at each place anew.
+//! Rows of partitions.
+ghost use Rattle.std.specs.Prelude.{◌^◌, ◌<◌, All, IfOk, length, sum};
+ghost use Rattle.balanced_partition.specs.Cuts.{IsBetween};
 
-ghost use Rattle.std.specs.Prelude.{◌≤◌};
+use crate::lines::{Tally, parted};
+use anyhow::{Result, bail};
+use balanced_partition::{NoMemory, Range, cut};
+use gimple_ir::List;
+use std::alloc::Global;
 
-use balanced_partition::{Range, cut};
-use std::test::Fail;
-
-#[test]
-fn worked_rows(rt: HostRuntime) -> Result<(), Fail> {
-    let halves = cut(rt.alloc(), &[10, 10, 10, 10], &[], 2)?;
-    assert_eq!(rt;
-        halves.as_slice(),
-        [Range { from: 0, to: 2 }, Range { from: 2, to: 4 }].as_slice()
-    );
-    let called = cut(rt.alloc(), &[10, 10, 10, 10], &[(1, 2)], 2)?;
-    let thirds = [
-        Range { from: 0, to: 1 },
-        Range { from: 1, to: 3 },
-        Range { from: 3, to: 4 },
-    ];
-    assert_eq!(rt; called.as_slice(), thirds.as_slice());
-    let large = cut(rt.alloc(), &[50, 1], &[], 2)?;
-    assert_eq!(rt;
-        large.as_slice(),
-        [Range { from: 0, to: 1 }, Range { from: 1, to: 2 }].as_slice()
-    );
-    let whole = cut(rt.alloc(), &[50, 1], &[(0, 1)], 1)?;
-    assert_eq!(rt; whole.as_slice(), [Range { from: 0, to: 2 }].as_slice());
-    Ok(())
-}
-
-/// Four versions of sizes 0, 1 and 3, two calls between any of them, and up to three partitions wanted.
-#[test]
-fn small_inputs(rt: HostRuntime) -> Result<(), Fail> {
-    for code in 0..81 {
-        let sizes = [size(code), size(code / 3), size(code / 9), size(code / 27)];
-        for ends in 0..256 {
-            let calls = [(ends % 4, ends / 4 % 4), (ends / 16 % 4, ends / 64 % 4)];
-            for wanted in 1..4 {
-                let ranges = cut(rt.alloc(), &sizes, &calls, wanted)?;
-                let aim = weight(&sizes, 0, 4).div_ceil(wanted as u64);
-                let mut start = 0;
-                for range in ranges.as_slice() {
-                    assert_eq!(rt; range.from, start);
-                    assert_eq!(rt;
-                        range.to,
-                        cut_after(&sizes, &calls, aim, start),
-                        "{code} {ends} {wanted}"
-                    );
-                    start = range.to;
-                }
-                assert_eq!(rt; start, 4);
-            }
+/// The numbers of a word, each below 256; none where it is `-`.
+fn numbers_of(alloc: Global, word: &str) -> Result<Vec<u8>> {
+    let mut numbers = Vec::new(alloc);
+    if word != "-" {
+        for part in word.split(',') {
+            numbers.push(part.parse::<u8>()?)?;
         }
     }
-    Ok(())
+    Ok(numbers)
 }
 
-fn size(code: u64) -> u64
-    ensures { result ≤ 3 }
+/// The calls of a word, between versions below the count.
+fn calls_of(alloc: Global, word: &str, count: u32) -> Result<Vec<(u32, u32)>>
+    requires { 0 < count }
+    ensures { IfOk result (λ calls. All (IsBetween count) calls.items) }
 {
-    match code % 3 {
-        0 => 0,
-        1 => 1,
-        _ => 3,
+    let mut calls = Vec::new(alloc);
+    if word == "-" {
+        return Ok(calls);
     }
+    for part in word.split(',') {
+        let Some((caller, callee)) = part.split_once('>') else {
+            bail!("no call: {part}");
+        };
+        let call = (
+            caller.parse::<u32>()? % count,
+            callee.parse::<u32>()? % count,
+        );
+        calls.push(call)?;
+    }
+    Ok(calls)
 }
 
-fn weight(sizes: &[u64; 4], start: u32, place: u32) -> u64 {
-    let mut sum: u64 = 0;
-    for version in 0..4 {
-        if start <= version && version < place {
-            sum = sum.wrapping_add(sizes[version as usize]);
-        }
+/// The places behind the first at which the partitions begin, and that where the last ends.
+fn places_of(alloc: Global, ranges: &List<Range>) -> Result<Vec<u8>> {
+    let mut places = Vec::new(alloc);
+    for range in ranges.as_slice() {
+        places.push(u8::try_from(range.to)?)?;
     }
-    sum
+    Ok(places)
 }
 
-/// The last place within the aim; unless that is the end, the last of those with the fewest calls from half of the aim on.
-fn cut_after(sizes: &[u64; 4], calls: &[(u32, u32); 2], aim: u64, start: u32) -> u32 {
-    let mut reach = start.wrapping_add(1);
-    for place in 1..5 {
-        if start < place && weight(sizes, start, place) <= aim {
-            reach = place;
+/// Whether the partitions of versions with calls between them are as the line says.
+pub fn cuts_at(alloc: Global, line: &str) -> Result<bool> {
+    let (wanted, rest) = parted(line);
+    let (calls, rest) = parted(rest);
+    let (sizes, places) = parted(rest);
+    let wanted = wanted.parse::<u32>()?.max(1);
+    let sizes = numbers_of(alloc, sizes)?;
+    let ranges = match sizes.as_slice() {
+        [a, b] => {
+            let calls = calls_of(alloc, calls, 2)?;
+            cut(alloc, &[u64::from(*a), u64::from(*b)], &calls, wanted)?
         }
-    }
-    if reach == 4 {
-        return reach;
-    }
-    let mut best = reach;
-    let mut fewest = 3;
-    for place in 1..5 {
-        let is_candidate = start < place
-            && place <= reach
-            && aim <= weight(sizes, start, place).wrapping_mul(2);
-        if is_candidate && cut_calls(calls, start, place) <= fewest {
-            best = place;
-            fewest = cut_calls(calls, start, place);
+        [a, b, c, d] => {
+            let calls = calls_of(alloc, calls, 4)?;
+            let four = four_of(*a, *b, *c, *d);
+            cut(alloc, &four, &calls, wanted)?
         }
-    }
-    best
+        _ => bail!("neither two versions nor four"),
+    };
+    Ok(places_of(alloc, &ranges)? == numbers_of(alloc, places)?)
 }
 
-fn cut_calls(calls: &[(u32, u32); 2], start: u32, place: u32) -> u32 {
-    let mut count: u32 = 0;
-    for (caller, callee) in *calls {
-        let lower = caller.min(callee);
-        let upper = caller.max(callee);
-        if start <= lower && lower < place && place <= upper {
-            count = count.wrapping_add(1);
-        }
+/// Four sizes.
+fn four_of(a: u8, b: u8, c: u8, d: u8) -> [u64; 4]
+    ensures count { length result ≡ 4 }
+    ensures sum { sum result < 2 ^ 62 }
+{
+    [u64::from(a), u64::from(b), u64::from(c), u64::from(d)]
+}
+
+/// Which partitions the versions of these sizes fall into, with two calls: the sum of 1, 2 and 4 for a cut at 1, 2 and 3.
+fn cuts_with(alloc: Global, sizes: [u8; 4], ends: u32, wanted: u32) -> Result<u8, NoMemory>
+    requires { 0 < wanted }
+{
+    let [a, b, c, d] = sizes;
+    let calls = [(ends % 4, ends / 4 % 4), (ends / 16 % 4, ends / 64 % 4)];
+    let ranges = cut(alloc, &four_of(a, b, c, d), &calls, wanted)?;
+    let mut cuts = 0;
+    for range in ranges.as_slice() {
+        cuts |= match range.to {
+            1 => 1,
+            2 => 2,
+            3 => 4,
+            _ => 0,
+        };
     }
-    count
+    Ok(cuts)
+}
+
+/// Whether they are as the line says, with each pair of calls: a row for each.
+pub fn cuts_each(alloc: Global, tally: &mut Tally, line: &str) -> Result<bool> {
+    let (wanted, rest) = parted(line);
+    let (sizes, digits) = parted(rest);
+    let wanted = wanted.parse::<u32>()?.max(1);
+    let sizes = numbers_of(alloc, sizes)?;
+    let [a, b, c, d] = sizes.as_slice() else {
+        bail!("not four versions");
+    };
+    let sizes = [*a, *b, *c, *d];
+    let mut all = true;
+    for (ends, digit) in (0..256u32).zip(digits.bytes()) {
+        let cuts = cuts_with(alloc, sizes, ends, wanted)?;
+        let holds = tally.count(cuts.wrapping_add(b'0') == digit);
+        all = all && holds;
+    }
+    if digits.len() != 256 {
+        bail!("not 256 rows");
+    }
+    Ok(all)
 }

@@ -10,10 +10,15 @@
 //! | `declared SEED COUNT MODULE NUMBER` | a row: it declares so many |
 //! | `defined SEED COUNT NUMBER` | a row: all modules together define so many |
 //! | `line SEED COUNT MODULE PLACE TEXT` | a row: the line of the canonical text of a module at this place, from 1 |
+//! | `pushed NUMBERS` | a row: a list, bytes and arguments to which these are pushed hold them, and their copies too |
+//! | `name TEXT` | a row: the text is a name |
+//! | `unnamed TEXT` | a row: it is none |
+//! | `meet LEFT RIGHT FACT` | a row: the meet of two facts, each `top`, `bottom` or a constant of `int` |
 //!
-//! Sizes and places are numbers with commas between them, calls pairs as `1>2` with commas between them; `-` is none of them. The two
-//! calls of row N of `cuts`, from 0, are between the versions of the last two digits of N in base 4, and of the two before them.
+//! Sizes, places and what is pushed are numbers below 256 with commas between them, calls pairs as `1>2`; `-` is none of them. The
+//! two calls of row N of `cuts`, from 0, are between the versions of the last two digits of N in base 4, and of the two before them.
 use crate::partitions::{cuts_at, cuts_each};
+use crate::values::{is_name, meets, pushed};
 use crate::workloads::workload_row;
 use anyhow::{Result, bail};
 use std::alloc::Global;
@@ -61,10 +66,24 @@ pub fn play(alloc: Global, tally: &mut Tally, line: &str) -> Result<bool> {
             Ok(tally.count(holds))
         }
         "cuts" => cuts_each(alloc, tally, rest),
+        "pushed" | "name" | "unnamed" | "meet" => {
+            let holds = value_row(alloc, word, rest)?;
+            Ok(tally.count(holds))
+        }
         "modules" | "functions" | "declared" | "defined" | "line" => {
             let holds = workload_row(alloc, word, rest)?;
             Ok(tally.count(holds))
         }
         _ => bail!("no line: {word}"),
+    }
+}
+
+/// Whether plain data are as the line says.
+fn value_row(alloc: Global, word: &str, rest: &str) -> Result<bool> {
+    match word {
+        "pushed" => pushed(alloc, rest),
+        "name" => Ok(is_name(alloc, rest)?),
+        "unnamed" => Ok(!is_name(alloc, rest)?),
+        _ => meets(rest),
     }
 }

@@ -1,4 +1,5 @@
-//! Plays rows of what no command shows: the partitions of `balanced_partition`, and the modules of `workload_gen`.
+//! Plays rows of what no command shows: the partitions of `balanced_partition`, the modules of `workload_gen`, and
+//! plain data of `gimple_ir`.
 //!
 //! `gimple_rows FILE..` plays the files one after the other. It prints each line in whose rows something else comes, and of each
 //! file how many rows it has and in how many of them that is so. `lines.rt` says what the lines of a file are.
@@ -6,6 +7,7 @@
 
 mod lines;
 mod partitions;
+mod values;
 mod workloads;
 
 use crate::lines::{Tally, play};

@@ -9,7 +9,7 @@ use gimple_ir::List;
 use std::alloc::Global;
 
 /// The numbers of a word, each below 256; none where it is `-`.
-fn numbers_of(alloc: Global, word: &str) -> Result<Vec<u8>> {
+pub fn numbers_of(alloc: Global, word: &str) -> Result<Vec<u8>> {
     let mut numbers = Vec::new(alloc);
     if word != "-" {
         for part in word.split(',') {

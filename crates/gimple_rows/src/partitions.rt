@@ -1,5 +1,5 @@
 //! Rows of partitions.
-ghost use Rattle.std.specs.Prelude.{◌^◌, ◌<◌, All, IfOk, length, sum};
+ghost use Rattle.std.specs.Prelude.{◌≡◌, ◌^◌, ◌<◌, All, IfOk, length, sum};
 ghost use Rattle.balanced_partition.specs.Cuts.{IsBetween};
 
 use crate::lines::{Tally, parted};

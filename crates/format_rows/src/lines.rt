@@ -76,10 +76,11 @@ pub fn play(alloc: Global, stage: &mut Stage, line: &str) -> Result<Option<Strin
 }
 
 fn row(alloc: Global, stage: &mut Stage, line: &str) -> Result<Option<String>> {
-    let Some((input, wanted)) = line.split_once("= ") else {
+    let Some((input, wanted)) = line.split_once(" =") else {
         bail!("no line: {line}");
     };
-    let (word, input) = parted(input.trim_end());
+    let wanted = wanted.strip_prefix(' ').unwrap_or(wanted);
+    let (word, input) = parted(input);
     match word {
         "cuts" => cuts(alloc, stage, wanted),
         "operation"
@@ -145,18 +146,18 @@ fn file_row(alloc: Global, stage: &Stage, word: &str, input: &str) -> Result<Str
     }
 }
 
-/// A row for each length that is less than the file's.
+/// A row for each length that is less than the file's; of those that differ, the last answer.
 fn cuts(alloc: Global, stage: &mut Stage, wanted: &str) -> Result<Option<String>> {
     let file = Vec::from_slice(alloc, stage.file())?;
     let (before, behind) = wanted.split_once('#').unwrap_or((wanted, ""));
-    let mut first = None;
+    let mut last = None;
     for length in 0..file.len() {
         let front = file.get(..length).unwrap_or(&[]);
         let found = object_row(alloc, stage.reader(), front, "is")?;
         let wanted = format!(in alloc; "{before}{length}{behind}")?;
         if let Some(found) = stage.count(found, wanted.as_str()) {
-            first = Some(found);
+            last = Some(found);
         }
     }
-    Ok(first)
+    Ok(last)
 }

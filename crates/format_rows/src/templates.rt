@@ -1,4 +1,6 @@
 //! Rows of the code templates: the words of an operator at a type, of a constant, and of a slot of the frame.
+ghost use Rattle.std.specs.Prelude.{◌<◌, ◌^◌, IfOk};
+
 use crate::parts::{numbers, parted};
 use anyhow::{Result, bail};
 use gimple_ir::{BinaryOp, ElementType, ScalarType, UnaryOp};

@@ -8,7 +8,7 @@ use std::alloc::Global;
 use std::marker::Model;
 
 /// The arguments of a call, of which one takes no memory of its own.
-#[derive(Drop)]
+#[derive(Debug, Drop)]
 pub struct Args {
     items: SmallVec<Arg, 1, Global>,
 }

@@ -87,7 +87,7 @@ pub enum Operand {
 }
 
 /// An argument of a call; `Whole` is a struct variable, by its number.
-#[derive(Clone, Copy)]
+#[derive(Clone, Copy, Debug)]
 pub enum Arg {
     One(Operand),
     Whole(u32),
@@ -106,14 +106,14 @@ impl Default for Arg {
 }
 
 /// A case of a switch: the value, and the label that it goes to.
-#[derive(Clone, Copy)]
+#[derive(Clone, Copy, Debug)]
 pub struct Case {
     pub value: Value,
     pub label: u32,
 }
 
 /// A statement; `to` is a component, and `yes`, `no`, `otherwise` are labels.
-#[derive(Drop)]
+#[derive(Debug, Drop)]
 pub enum Statement {
     Nop,
     Label(u32),
@@ -177,21 +177,21 @@ pub enum Statement {
 }
 
 /// A struct type.
-#[derive(Drop)]
+#[derive(Debug, Drop)]
 pub struct StructDef {
     pub name: Name,
     pub fields: List<Field>,
 }
 
 /// A field of a struct.
-#[derive(Drop)]
+#[derive(Debug, Drop)]
 pub struct Field {
     pub name: Name,
     pub ty: ScalarType,
 }
 
 /// A variable of a function; `types` has the type of each of its components.
-#[derive(Drop)]
+#[derive(Debug, Drop)]
 pub struct Variable {
     pub name: Name,
     pub ty: VarType,
@@ -199,7 +199,7 @@ pub struct Variable {
 }
 
 /// An array of static storage; initial values that are missing at the end are 0.
-#[derive(Drop)]
+#[derive(Debug, Drop)]
 pub struct Array {
     pub name: Name,
     pub linkage: Linkage,
@@ -212,7 +212,7 @@ pub struct Array {
 
 /// A function; the first `parameters` of its variables are its parameters, and a declaration has no locals, labels and
 /// statements.
-#[derive(Drop)]
+#[derive(Debug, Drop)]
 pub struct Function {
     pub name: Name,
     pub linkage: Linkage,
@@ -224,7 +224,7 @@ pub struct Function {
 }
 
 /// One source file.
-#[derive(Drop)]
+#[derive(Debug, Drop)]
 pub struct Module {
     pub structs: List<StructDef>,
     pub arrays: List<Array>,

@@ -17,8 +17,18 @@ pub fn pushed(alloc: Global, line: &str) -> Result<bool> {
         args.push(Arg::Whole(u32::from(*number)))?;
     }
     let hold = list.as_slice() == numbers.as_slice() && bytes.as_slice() == numbers.as_slice();
-    let copied = list == list.copy()? && bytes == bytes.copy()? && args == args.copy()?;
-    Ok(hold && copied && args.len() == numbers.len())
+    let copied = list == list.copy()? && bytes == bytes.copy()?;
+    let whole = are_whole(&args, &numbers) && are_whole(&args.copy()?, &numbers);
+    Ok(hold && copied && whole)
+}
+
+/// Whether the arguments are whole variables with these numbers.
+fn are_whole(args: &Args, numbers: &[u8]) -> bool {
+    args.len() == numbers.len()
+        && args.as_slice().iter().zip(numbers).all(|(
+            arg,
+            number,
+        )| matches!(arg, Arg::Whole(place) if *place == u32::from(*number)))
 }
 
 /// Whether a text is a name that is shown as it stands, and so is its copy.

@@ -3,7 +3,7 @@
 //! | Line | What it says |
 //! |---|---|
 //! | `# ..` | nothing, as an empty line |
-//! | `cut WANTED CALLS SIZES PLACES` | a row: so many partitions are wanted of versions of these sizes, and cuts come at these places |
+//! | `cut WANTED CALL SIZES PLACES` | a row: so many partitions are wanted of two or four versions of these sizes, and they end at these places |
 //! | `cuts WANTED SIZES DIGITS` | 256 rows: of four versions with any two calls; a digit is the sum of 1, 2 and 4 for a cut at 1, 2 and 3 |
 //! | `modules SEED COUNT NUMBER` | a row: so many modules are generated |
 //! | `functions SEED COUNT MODULE NUMBER` | a row: a module has so many functions, declarations among them |
@@ -15,7 +15,7 @@
 //! | `unnamed TEXT` | a row: it is none |
 //! | `meet LEFT RIGHT FACT` | a row: the meet of two facts, each `top`, `bottom` or a constant of `int` |
 //!
-//! Sizes, places and what is pushed are numbers below 256 with commas between them, calls pairs as `1>2`; `-` is none of them. The
+//! Sizes, places and what is pushed are numbers below 256 with commas between them, a call is a pair as `1>2`; `-` is none. The
 //! two calls of row N of `cuts`, from 0, are between the versions of the last two digits of N in base 4, and of the two before them.
 use crate::partitions::{cuts_at, cuts_each};
 use crate::values::{is_name, meets, pushed};

@@ -1,6 +1,5 @@
 //! Rows of partitions.
-ghost use Rattle.std.specs.Prelude.{◌≡◌, ◌^◌, ◌<◌, All, IfOk, length, sum};
-ghost use Rattle.balanced_partition.specs.Cuts.{IsBetween};
+ghost use Rattle.std.specs.Prelude.{◌≡◌, ◌^◌, ◌<◌, length, sum};
 
 use crate::lines::{Tally, parted};
 use anyhow::{Result, bail};
@@ -19,26 +18,49 @@ pub fn numbers_of(alloc: Global, word: &str) -> Result<Vec<u8>> {
     Ok(numbers)
 }
 
-/// The calls of a word, between versions below the count.
-fn calls_of(alloc: Global, word: &str, count: u32) -> Result<Vec<(u32, u32)>>
-    requires { 0 < count }
-    ensures { IfOk result (λ calls. All (IsBetween count) calls.items) }
-{
-    let mut calls = Vec::new(alloc);
+/// The call of a word; none where it is `-`.
+fn call_of(word: &str) -> Result<Option<(u32, u32)>> {
     if word == "-" {
-        return Ok(calls);
+        return Ok(None);
     }
-    for part in word.split(',') {
-        let Some((caller, callee)) = part.split_once('>') else {
-            bail!("no call: {part}");
-        };
-        let call = (
-            caller.parse::<u32>()? % count,
-            callee.parse::<u32>()? % count,
-        );
-        calls.push(call)?;
+    let Some((caller, callee)) = word.split_once('>') else {
+        bail!("no call: {word}");
+    };
+    Ok(Some((caller.parse::<u32>()?, callee.parse::<u32>()?)))
+}
+
+/// The partitions of two versions.
+fn cut_two(
+    alloc: Global,
+    a: u8,
+    b: u8,
+    call: Option<(u32, u32)>,
+    wanted: u32,
+) -> Result<List<Range>, NoMemory>
+    requires { 0 < wanted }
+{
+    let sizes = [u64::from(a), u64::from(b)];
+    match call {
+        None => cut(alloc, &sizes, &[], wanted),
+        Some((caller, callee)) => cut(alloc, &sizes, &[(caller % 2, callee % 2)], wanted),
     }
-    Ok(calls)
+}
+
+/// The partitions of four versions.
+fn cut_four(
+    alloc: Global,
+    sizes: [u64; 4],
+    call: Option<(u32, u32)>,
+    wanted: u32,
+) -> Result<List<Range>, NoMemory>
+    requires count { length sizes ≡ 4 }
+    requires sum { sum sizes < 2 ^ 62 }
+    requires wanted { 0 < wanted }
+{
+    match call {
+        None => cut(alloc, &sizes, &[], wanted),
+        Some((caller, callee)) => cut(alloc, &sizes, &[(caller % 4, callee % 4)], wanted),
+    }
 }
 
 /// The places behind the first at which the partitions begin, and that where the last ends.
@@ -57,16 +79,10 @@ pub fn cuts_at(alloc: Global, line: &str) -> Result<bool> {
     let (sizes, places) = parted(rest);
     let wanted = wanted.parse::<u32>()?.max(1);
     let sizes = numbers_of(alloc, sizes)?;
+    let call = call_of(calls)?;
     let ranges = match sizes.as_slice() {
-        [a, b] => {
-            let calls = calls_of(alloc, calls, 2)?;
-            cut(alloc, &[u64::from(*a), u64::from(*b)], &calls, wanted)?
-        }
-        [a, b, c, d] => {
-            let calls = calls_of(alloc, calls, 4)?;
-            let four = four_of(*a, *b, *c, *d);
-            cut(alloc, &four, &calls, wanted)?
-        }
+        [a, b] => cut_two(alloc, *a, *b, call, wanted)?,
+        [a, b, c, d] => cut_four(alloc, four_of(*a, *b, *c, *d), call, wanted)?,
         _ => bail!("neither two versions nor four"),
     };
     Ok(places_of(alloc, &ranges)? == numbers_of(alloc, places)?)

@@ -15,7 +15,7 @@ use gimple_grammar::{Item, ItemLine};
 use gimple_ir::{Function, Module, Name, TypeFault, TypeKind, VarType, Variable};
 
 /// The sorts of items, in the order in which they are checked.
-#[derive(Clone, Copy, Debug, PartialEq, Eq)]
+#[derive(Clone, Copy)]
 pub enum Sort {
     Structs,
     Arrays,

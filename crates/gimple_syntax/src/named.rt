@@ -3,7 +3,7 @@
 use gimple_ir::Operand;
 
 /// What a place or a literal names. A variable of a scalar type and a field of a struct variable are components.
-#[derive(Clone, Copy, Debug, PartialEq, Eq)]
+#[derive(Clone, Copy)]
 pub enum Named {
     /// Nothing.
     Unknown,

@@ -7,14 +7,14 @@ use gimple_ir::Linkage;
 use resolution_text::ResolutionKind;
 
 /// Where a symbol stands: its object, and its place in that object's list.
-#[derive(Clone, Copy, Debug, PartialEq, Eq)]
+#[derive(Clone, Copy)]
 pub struct SymbolPlace {
     pub object: usize,
     pub place: usize,
 }
 
 /// What the symbols of a name come to.
-#[derive(Clone, Copy, Debug)]
+#[derive(Clone, Copy)]
 pub struct Definitions {
     /// The first strong definition.
     pub strong: Option<SymbolPlace>,

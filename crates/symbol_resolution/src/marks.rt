@@ -13,7 +13,7 @@ use resolution_text::{Resolved, ResolvedFile, Word};
 use std::alloc::Global;
 
 /// A symbol as a resolution has it: its object, its number in the module, and its word.
-#[derive(Clone, Copy, Debug)]
+#[derive(Clone, Copy)]
 pub struct Mark {
     pub object: usize,
     pub place: u32,

@@ -7,7 +7,7 @@ use crate::groups::NameGroups;
 use gimple_ir::{Linkage, Module};
 
 /// The number of a definition in the merged program, and where the definition stands.
-#[derive(Clone, Copy, Debug)]
+#[derive(Clone, Copy)]
 pub struct Numbered {
     pub number: u32,
     pub object: usize,

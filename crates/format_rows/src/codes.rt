@@ -4,7 +4,7 @@ ghost use Rattle.gimple_ir.specs.Statements.{is_literal};
 ghost use Rattle.rv64_select.specs.Versioned.{IsVersioned};
 
 use crate::parts::{copied, hexadecimal};
-use anyhow::{Result, bail};
+use anyhow::{Result, anyhow};
 use gimple_ir::{List, Name, Operand, ScalarType, Step, Value, VersionedFunction};
 use rv64_frame::frame;
 use rv64_isa::{decode, encode};
@@ -35,16 +35,17 @@ fn literal(num: i128) -> Operand
 }
 
 /// `int main () { __builtin_putchar (72); __builtin_putchar (105); return 7; }`
-fn main_of(alloc: Global, symbol: Name) -> Result<VersionedFunction>
+fn main_of(alloc: Global) -> Result<VersionedFunction>
     ensures { IfOk result (λ function. IsVersioned function) }
 {
+    let symbol = Name::read(alloc, b"main.0")?;
     let body = vec![in alloc;
         Step::Putchar(literal(72)),
         Step::Putchar(literal(105)),
         Step::Return(Some(literal(7))),
     ]?;
     Ok(VersionedFunction {
-        symbol,
+        symbol: symbol.ok_or(anyhow!("no name"))?,
         types: List::new(alloc),
         bindings: List::new(alloc),
         labels: 0,
@@ -56,10 +57,7 @@ fn main_of(alloc: Global, symbol: Name) -> Result<VersionedFunction>
 
 /// The words, the relocations or the names of the code of `main`.
 pub fn code_row(alloc: Global, part: &str) -> Result<String> {
-    let Some(symbol) = Name::read(alloc, b"main.0")? else {
-        bail!("no name");
-    };
-    let function = main_of(alloc, symbol)?;
+    let function = main_of(alloc)?;
     let layout = frame(&function);
     let found = code(alloc, &function, &layout)?;
     match part {

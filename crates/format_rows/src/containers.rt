@@ -38,11 +38,11 @@ fn section(alloc: Global, line: &str) -> Result<OwnSection>
 fn all_sections(alloc: Global, lines: &[String]) -> Result<List<OwnSection>>
     ensures { IfOk result (λ sections. All IsPlain sections) }
 {
-    let mut sections = List::new(alloc);
+    let mut sections = Vec::new(alloc);
     for line in lines {
         sections.push(section(alloc, line.as_str())?)?;
     }
-    Ok(sections)
+    Ok(List::from_vec(sections))
 }
 
 /// The container of the sections of these lines.

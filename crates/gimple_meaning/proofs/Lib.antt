@@ -1,4 +1,5 @@
 pub mod RunLaws
+pub mod LockSteps
 pub mod WorkedRows
 pub mod Parts
 pub mod Places

@@ -4,6 +4,7 @@ pub mod Source
 pub mod Steps
 pub mod Run
 pub mod Laws
+pub mod LockStep
 pub mod Held
 pub mod Moves
 pub mod Stages

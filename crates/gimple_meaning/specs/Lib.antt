@@ -5,6 +5,8 @@ pub mod Steps
 pub mod Run
 pub mod Laws
 pub mod LockStep
+pub mod Shown
+pub mod Keeping
 pub mod Held
 pub mod Moves
 pub mod Stages

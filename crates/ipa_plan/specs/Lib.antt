@@ -1,3 +1,5 @@
+pub mod Vectors
+pub mod Rules
 pub mod Plans
 pub mod Numbering
 pub mod Laws

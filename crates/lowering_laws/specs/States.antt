@@ -1,24 +1,22 @@
--- When a run of versions stands as the source does: the same outcome, arrays, input and output, and the same frames, but that a frame of a
--- version stands for one of its function.
-use Rattle.std.specs.Prelude.{◌≡◌, ℕ, map, length, slice_get}
+-- How the versions of a plan stand for the whole program: each version for its function, with all components but those that are given up.
+use Rattle.std.specs.Prelude.{ℕ, Bool, true, not, length, slice_get}
 use Rattle.std.specs.Option.{option_map_or}
 use Rattle.gimple_ir.specs.declared.types.Program.{Program}
+use Rattle.gimple_ir.specs.declared.plan.Version.{Version}
 use Rattle.gimple_ir.specs.declared.plan.Plan.{Plan}
-use Rattle.gimple_meaning.specs.Systems.{Frame, Machine, State, Running, Ended, Undefined}
+use Rattle.gimple_meaning.specs.Keeping.{View}
+use Rattle.ipa_plan.specs.Rules.{is_dead}
 
 -- the function of the version at a place; past the end of the program where there is none
 abbrev pub function_of_version : Program → Plan → ℕ → ℕ
 function_of_version p plan place = option_map_or (λ v. v.function) (slice_get plan.versions place) (length p.functions)
 
-abbrev pub source_frame : Program → Plan → Frame → Frame
-source_frame p plan frame = record frame { function = function_of_version p plan frame.function }
+-- every component but a parameter component that is bound to nothing
+abbrev pub is_alive : Version → ℕ → Bool
+is_alive v i = option_map_or (λ b. not (is_dead b)) (slice_get v.bindings i) true
 
--- the state of the source that a state of the versions stands for
-abbrev pub source_machine : Program → Plan → Machine → Machine
-source_machine p plan q = record q { frames = map (source_frame p plan) q.frames }
-
--- while the first, the source, is defined, the second stands for it
-abbrev pub SameState : Program → Plan → State → State → Type 0
-SameState p plan (Undefined m function place) t = Unit {0}
-SameState p plan (Running m) t = (q : Machine) × (t ≡ Running q) × (m ≡ source_machine p plan q)
-SameState p plan (Ended m status) t = (q : Machine) × (t ≡ Ended q status) × (m ≡ source_machine p plan q)
+abbrev pub versions_view : Program → Plan → View
+versions_view p plan = record {
+  function_of = function_of_version p plan;
+  keeps = λ place step i. option_map_or (λ v. is_alive v i) (slice_get plan.versions place) true;
+}

@@ -1,7 +1,7 @@
 -- A body and its steps: the step, the label and the call at each place.
 use Rattle.std.proofs.Common.{◌≡◌, ◌+◌, ◌<◌, ℕ, zero, suc, List, [], ◌∷◌, ◌++◌, length, map, Bool, cond, Some, None, refl, sym, ap, ap₂, ◌∙◌, subst, arith, append_assoc, length-append}
 use Rattle.std.specs.Prelude.{Option, slice_get, option_map, is_some, take}
-use Rattle.std.specs.List.{flat_map, filter_map, enumerate_from, cons_option, range_with_len}
+use Rattle.std.specs.List.{flat_map, filter_map, enumerate_from, cons_option}
 use Rattle.std.specs.Option.{option_map_or}
 use Rattle.std.proofs.lemmas.Option.{none-some, same_Some}
 use Rattle.std.proofs.lemmas.List.FromFn.{length-map-range_with_len}
@@ -17,6 +17,7 @@ use Rattle.gimple_ir.specs.declared.types.Program.{Program}
 use Rattle.gimple_ir.specs.declared.types.Statement.{Statement}
 use Rattle.gimple_ir.specs.declared.types.Statement.TheVariants.{Label, Call}
 use Rattle.gimple_ir.specs.declared.summary.Edge.{Edge}
+use Rattle.gimple_ir.specs.declared.plan.CallPlan.{CallPlan}
 use Rattle.gimple_ir.specs.declared.plan.Version.{Version}
 use Rattle.gimple_ir.specs.declared.plan.Plan.{Plan}
 use Rattle.gimple_ir.specs.declared.merged.Merged.{Merged}
@@ -30,7 +31,7 @@ use Rattle.gimple_meaning.specs.Steps as steps
 use Rattle.func_summary.specs.Summaries.{edge_arguments, edge_of, edges_of}
 use Rattle.ipa_transform.specs.Versioned.{first_component, field_count, operands_of, struct_pairs, picked, kept_of, step_of, calls_in, steps_of}
 use Rattle.func_summary.proofs.Checked.{place_inside}
-use Rattle.ipa_plan.specs.Plans.{all_of}
+use Rattle.ipa_plan.specs.Rules.{Choice, kept_from, IsCallOf}
 use Rattle.program_link.specs.Versions.{call_use}
 use Rattle.machine_laws.specs.Linked.{LinkedProgram, linked_step}
 use Rattle.lowering_laws.proofs.Lists.{there, mapped_at}
@@ -64,7 +65,7 @@ same_place w p v n l (s ∷ ss) =
 abbrev pub edge_with : Function → ℕ → Option ℕ → ℕ → List Arg → Edge
 edge_with f place to g args = record { statement = place; callee = g; assigns = is_some to; args = flat_map (edge_arguments f) args }
 
-first_after : {A : Type 0} (pre : List A) (x : A) (more : List A) → slice_get (pre ++ (x ∷ more)) (length pre) ≡ Some x
+pub first_after : {A : Type 0} (pre : List A) (x : A) (more : List A) → slice_get (pre ++ (x ∷ more)) (length pre) ≡ Some x
 first_after [] x more = refl
 first_after (y ∷ pre) x more = first_after pre x more
 
@@ -136,55 +137,46 @@ one_count f (One (Literal v)) = refl
 one_count f (Whole v) =
     length-map-range_with_len _ 0 (components_of f.variables v) ∙ sym (length-components_from (source.first_component f.variables v) (components_of f.variables v))
 
-argument_count : (f : Function) (args : List Arg) → length (flat_map (edge_arguments f) args) ≡ length (flat_map (source.operands_of f.variables) args)
+pub argument_count : (f : Function) (args : List Arg) → length (flat_map (edge_arguments f) args) ≡ length (flat_map (source.operands_of f.variables) args)
 argument_count f [] = refl
 argument_count f (a ∷ args) =
     length-append (edge_arguments f a) (flat_map (edge_arguments f) args)
     ∙ ap₂ (λ (j k : ℕ). j + k) (one_count f a) (argument_count f args)
     ∙ sym (length-append (source.operands_of f.variables a) (flat_map (source.operands_of f.variables) args))
 
--- ---- all are passed
+-- ---- calls of a version
 
-all_picked : {X : Type 0} (pre xs : List X) → picked (pre ++ xs) (range_with_len (length pre) (length xs)) ≡ xs
-all_picked pre [] = refl
-all_picked {X} pre (x ∷ xs) =
-    let later : picked ((pre ++ (x ∷ [])) ++ xs) (range_with_len (length (pre ++ (x ∷ []))) (length xs)) ≡ xs = all_picked (pre ++ (x ∷ [])) xs in
-    let count : length (pre ++ (x ∷ [])) ≡ length pre + 1 = length-append pre (x ∷ []) in
-    let rest : picked (pre ++ (x ∷ xs)) (range_with_len (length pre + 1) (length xs)) ≡ xs =
-    subst (λ (z : List X). picked z (range_with_len (length pre + 1) (length xs)) ≡ xs) (append_assoc pre (x ∷ []) xs)
-    (subst (λ (k : ℕ). picked ((pre ++ (x ∷ [])) ++ xs) (range_with_len k (length xs)) ≡ xs) count later) in
-    ap₂ (λ (front back : List X). front ++ back) (ap (λ o. option_map_or (λ y. y ∷ []) o []) (first_after pre x xs)) rest
-
--- the call at a place, which is before its place of n calls: a version of the function is called, with all arguments
-pub record CallStands (plan : Plan) (v : Version) (f : Function) (n g : ℕ) (args : List Arg) : Type 0 where
-  pub target : Version
+-- the call at a place, before which n functions are called
+pub record CallStands (plan : Plan) (choice : Choice) (v : Version) (f : Function) (n : ℕ) (to : Option ℕ) (g : ℕ) (args : List Arg) : Type 0 where
+  pub call : CallPlan
   pub place : ℕ
-  pub stands : slice_get plan.versions place ≡ Some target
-  pub callee : target.function ≡ g
-  pub symbol : slice_get (map (λ (c : CallUse). c.symbol) (map (call_use plan) v.calls)) n ≡ Some target.symbol
-  pub passed : picked (flat_map (operands_of (types_of f.variables)) args) (kept_of (map (call_use plan) v.calls) n) ≡ flat_map (source.operands_of f.variables) args
+  pub edge_is : slice_get (edges_of f) n ≡ Some (edge_with f place to g args)
+  pub planned : slice_get v.calls n ≡ Some call
+  pub rules : IsCallOf plan choice v (edge_with f place to g args) call
+  pub symbol : slice_get (map (λ (c : CallUse). c.symbol) (map (call_use plan) v.calls)) n ≡ Some rules.target.symbol
+  pub passed : picked (flat_map (operands_of (types_of f.variables)) args) (kept_of (map (call_use plan) v.calls) n)
+      ≡ picked (flat_map (source.operands_of f.variables) args) (kept_from 0 rules.target.bindings)
 
-pub call_stands : (p : Program) (merged : Merged) (plan : Plan) (v : Version) (f : Function) → VersionFacts p merged plan v f → (i : ℕ) (to : Option ℕ) (g : ℕ) (args : List Arg)
-    → slice_get f.body i ≡ Some (Call to g args) → CallStands plan v f (calls_before 0 f.body i) g args
-call_stands p merged plan v f k i to g args here =
+pub call_stands : (p : Program) (merged : Merged) (plan : Plan) (choice : Choice) (v : Version) (f : Function) → VersionFacts p merged plan choice v f → (i : ℕ) (to : Option ℕ) (g : ℕ) (args : List Arg)
+    → slice_get f.body i ≡ Some (Call to g args) → CallStands plan choice v f (calls_before 0 f.body i) to g args
+call_stands p merged plan choice v f k i to g args here =
     let n = calls_before 0 f.body i in
     let e = edge_at f 0 [] f.body i to g args here in
     let edge = edge_with f e.0 to g args in
     let inside : n < length v.calls = omega (arith, place_inside (edges_of f) n edge e.1, k.count) in
     let r = there v.calls n inside in
     let c = r.0 in
-    let call = k.calls n edge c e.1 r.1 in
+    let rules = k.calls n edge c e.1 r.1 in
     let uses : slice_get (map (call_use plan) v.calls) n ≡ Some (call_use plan c) = mapped_at (call_use plan) v.calls n c r.1 in
-    let ops = flat_map (source.operands_of f.variables) args in
-    let kept : kept_of (map (call_use plan) v.calls) n ≡ all_of (length ops) =
-    ap (λ o. option_map_or (λ (u : CallUse). u.kept) o []) uses ∙ call.kept ∙ ap all_of (argument_count f args) in
+    let kept : kept_of (map (call_use plan) v.calls) n ≡ kept_from 0 rules.target.bindings = ap (λ o. option_map_or (λ (u : CallUse). u.kept) o []) uses ∙ rules.kept in
     record {
-      target = call.target;
-      place = c.target;
-      stands = call.there;
-      callee = call.callee;
+      call = c;
+      place = e.0;
+      edge_is = e.1;
+      planned = r.1;
+      rules = rules;
       symbol =
           mapped_at (λ (u : CallUse). u.symbol) (map (call_use plan) v.calls) n (call_use plan c) uses
-          ∙ ap (λ (o : Option Version). Some (option_map_or (λ (w : Version). w.symbol) o [])) call.there;
-      passed = ap₂ (λ (xs : List Operand) (ks : List ℕ). picked xs ks) (operands_same f.variables args) kept ∙ all_picked [] ops;
+          ∙ ap (λ (o : Option Version). Some (option_map_or (λ (w : Version). w.symbol) o [])) rules.there;
+      passed = ap₂ (λ (xs : List Operand) (ks : List ℕ). picked xs ks) (operands_same f.variables args) kept;
     }

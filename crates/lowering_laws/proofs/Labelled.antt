@@ -18,9 +18,10 @@ use Rattle.gimple_ir.specs.Checks.{label_of, counts_up, labels_in_order, goals_s
 use Rattle.gimple_meaning.specs.Steps.{place_of, is_label}
 use Rattle.func_summary.proofs.Checked.{both-true}
 use Rattle.ipa_transform.specs.Versioned.{step_of, calls_in, steps_of}
+use Rattle.program_link.specs.Versions.{member_of}
 use Rattle.program_link.proofs.Facts.{same_number}
 use Rattle.machine_laws.specs.Typed.{StandsOnce}
-use Rattle.lowering_laws.proofs.Standing.{whole_member, version_at}
+use Rattle.lowering_laws.proofs.Standing.{version_at}
 
 -- the label of a step
 abbrev step_label : Step → Option ℕ
@@ -100,6 +101,6 @@ labels_once p merged plan v f h label lt =
     let two = both-true (labels_in_order (length f.labels) f.body) (goals_stand (length f.labels) f.body) all.0 in
     let order = both-true (counts_up 0 (filter_map label_of f.body)) (nat_eq (length (filter_map label_of f.body)) (length f.labels)) two.0 in
     let count = same_number (length (filter_map label_of f.body)) (length f.labels) order.1 in
-    let r = ordered (whole_member p merged plan v f) 0 0 f.body order.0 in
+    let r = ordered (member_of p merged plan v f) 0 0 f.body order.0 in
     let low : 0 ≤ label = omega arith in
     record { stands = r.stands label low (omega (arith, lt, count)); once = λ place here. (r.once label place here).0 }

@@ -1,9 +1,10 @@
 -- The symbols that versions name stand for versions of the functions, and for the arrays, that statements name.
 use Rattle.std.proofs.Common.{◌≡◌, ◌^◌, ◌<◌, ℕ, List, [], ◌∷◌, length, map, Bool, true, false, true≢false, cond, eqb, eqb-true, eq-eqb, Some, refl, sym, ap, ◌∙◌, subst, ◌||◌, drop, arith}
-use Rattle.std.specs.Prelude.{All, ◌&&◌, not, slice_get, filter, unwrap_or, nat_eq}
+use Rattle.std.specs.Prelude.{All, ◌&&◌, not, slice_get, filter, unwrap_or, nat_eq, nat_lt}
 use Rattle.std.specs.List.{list_any, position_or_len}
 use Rattle.std.specs.Option.{option_map_or}
 use Rattle.std.specs.Str.{bytes_eq}
+use Rattle.std.proofs.lemmas.Bool.Decides.{nat_tests}
 use Rattle.std.proofs.lemmas.List.{length-map}
 use Rattle.std.proofs.lemmas.List.Elements.{All-append, All-filter, All-head, All-tail, All-weaker}
 use Rattle.std.proofs.lemmas.List.Folds.{list_any-append}
@@ -18,14 +19,14 @@ use Rattle.gimple_ir.specs.declared.versioned.VersionedFunction.{VersionedFuncti
 use Rattle.gimple_ir.specs.Programs.{IsIdentifier}
 use Rattle.func_summary.specs.Summarised.{IsSmallArray, IsSummarised}
 use Rattle.func_summary.proofs.Checked.{both-true, all_at}
-use Rattle.ipa_plan.specs.Laws.{IsVersionIn, IsPlanned}
+use Rattle.ipa_plan.specs.Rules.{is_reduced, IsPlanned}
 use Rattle.final_link.specs.Arrays.{array_symbol, is_zeroed, stored_arrays, zeroed_arrays}
 use Rattle.final_link.specs.Symbols.{arrays_in_order}
 use Rattle.final_link.specs.Names.{value_of}
 use Rattle.final_link.specs.Placing.{is_first_of}
 use Rattle.program_link.specs.Versions.{version_in, functions_of}
 use Rattle.program_link.proofs.Facts.{same_number}
-use Rattle.program_link.proofs.SymbolLaws.{behind, behind_function, behind_array}
+use Rattle.program_link.proofs.SymbolLaws.{behind, behind_array, same_version}
 use Rattle.program_link.proofs.SymbolLaws.{same_number as same_decimal}
 use Rattle.lowering_laws.specs.States.{function_of_version}
 use Rattle.lowering_laws.specs.Linked.{linked}
@@ -38,19 +39,32 @@ use Rattle.lowering_laws.proofs.Standing.{standing}
 pub function_there : (p : Program) (plan : Plan) (place : ℕ) (v : Version) → slice_get plan.versions place ≡ Some v → function_of_version p plan place ≡ v.function
 function_there p plan place v at = ap (λ o. option_map_or (λ (w : Version). w.function) o (length p.functions)) at
 
--- two versions of one symbol are of one function
-same_function : (p : Program) (merged : Merged) (plan : Plan) → IsSummarised p merged → IsPlanned merged plan → (place other : ℕ) (v w : Version)
-    → slice_get plan.versions place ≡ Some v → slice_get plan.versions other ≡ Some w → v.symbol ≡ w.symbol → v.function ≡ w.function
-same_function p merged plan summarised planned place other v w at also same =
+-- two versions of one symbol are one
+same_version_place : (p : Program) (merged : Merged) (plan : Plan) → IsSummarised p merged → IsPlanned merged plan → (place other : ℕ) (v w : Version)
+    → slice_get plan.versions place ≡ Some v → slice_get plan.versions other ≡ Some w → v.symbol ≡ w.symbol → place ≡ other
+same_version_place p merged plan summarised planned place other v w at also same =
     let k = standing p merged plan summarised planned place v at in
     let l = standing p merged plan summarised planned other w also in
-    same_decimal v.function w.function (omega (arith, k.1.inside, summarised.few_functions)) (omega (arith, l.1.inside, summarised.few_functions))
-    (sym (behind_function k.0.name v.function k.1.facts.name) ∙ ap behind (sym k.1.symbol ∙ same ∙ l.1.symbol) ∙ behind_function l.0.name w.function l.1.facts.name)
+    let numbers = same_version k.0.name l.0.name v.function w.function v.number w.number (is_reduced k.1.known.function v.bindings v.result) (is_reduced l.1.known.function w.bindings w.result)
+    k.1.facts.name l.1.facts.name (omega (arith, k.1.inside, summarised.few_functions)) (omega (arith, l.1.inside, summarised.few_functions)) (omega (arith, k.1.known.few)) (omega (arith, l.1.known.few))
+    (sym k.1.symbol ∙ same ∙ l.1.symbol) in
+    by (nat_lt place other) (nat_lt other place) refl refl numbers
+  where
+    by : (a b : Bool) → nat_lt place other ≡ a → nat_lt other place ≡ b → (v.function ≡ w.function) × (v.number ≡ w.number) → place ≡ other
+    by true b first second numbers =
+        let below_other : place < other = grind (arith, nat_tests) in
+        let before = planned.ordered place other v w below_other at also in
+        absurd (omega (arith, before.numbers numbers.0, numbers.1))
+    by false true first second numbers =
+        let below_place : other < place = grind (arith, nat_tests) in
+        let before = planned.ordered other place w v below_place also at in
+        absurd (omega (arith, before.numbers (sym numbers.0), numbers.1))
+    by false false first second numbers = grind (arith, nat_tests)
 
--- a version's symbol names one of the same function
-pub function_found : (p : Program) (merged : Merged) (plan : Plan) → IsSummarised p merged → IsPlanned merged plan → (place : ℕ) (v : Version) → slice_get plan.versions place ≡ Some v
-    → function_of_version p plan ((linked p merged plan).function_named v.symbol) ≡ v.function
-function_found p merged plan summarised planned place v at =
+-- a version's symbol names it
+pub place_named : (p : Program) (merged : Merged) (plan : Plan) → IsSummarised p merged → IsPlanned merged plan → (place : ℕ) (v : Version) → slice_get plan.versions place ≡ Some v
+    → (linked p merged plan).function_named v.symbol ≡ place
+place_named p merged plan summarised planned place v at =
     let test = λ (f : VersionedFunction). bytes_eq v.symbol f.symbol in
     let fs = functions_of p merged plan in
     let own = mapped_at (version_in p merged plan) plan.versions place v at in
@@ -59,8 +73,7 @@ function_found p merged plan summarised planned place v at =
     let w = from.0 in
     let same : v.symbol ≡ w.symbol =
     (bytes_eq-Decides v.symbol r.0.symbol).0 r.2 ∙ ap (λ (f : VersionedFunction). f.symbol) (sym from.2) in
-    function_there p plan (position_or_len test fs) w from.1
-    ∙ sym (same_function p merged plan summarised planned place (position_or_len test fs) v w at from.1 same)
+    sym (same_version_place p merged plan summarised planned place (position_or_len test fs) v w at from.1 same)
 
 -- a run begins with a version of `main`
 pub record Begins (p : Program) (merged : Merged) (plan : Plan) : Type 0 where
@@ -72,8 +85,7 @@ pub begins_at : (p : Program) (merged : Merged) (plan : Plan) → IsSummarised p
 begins_at p merged plan summarised planned =
     let first = planned.main summarised.exported in
     let v = first.1 in
-    let known = all_at (IsVersionIn merged plan) plan.versions planned.versions first.0 v first.2 in
-    let r = first_passing (is_first_of merged.main) plan.versions first.0 v first.2 (passes v first.3 known.number) in
+    let r = first_passing (is_first_of merged.main) plan.versions first.0 v first.2 (passes v first.3.0 first.3.1) in
     let both = both-true (eqb r.0.function merged.main) (eqb r.0.number 0) r.2 in
     record { version = r.0; at = r.1; is = eqb-true r.0.function merged.main both.0 ∙ summarised.main }
   where

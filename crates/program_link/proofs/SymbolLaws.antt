@@ -9,6 +9,7 @@ use Rattle.std.proofs.lemmas.Fmt.{decimal_is_IsNumeral, decimal_by_steps}
 use Rattle.std.proofs.lemmas.Slice.Eq.{bytes_eq-Decides}
 use Rattle.gimple_ir.specs.Names.{is_among, is_identifier, is_letter, is_digit, begins_with_letter, keywords, repeats, repeats_after}
 use Rattle.func_summary.proofs.Checked.{both-true}
+use Rattle.ipa_plan.specs.Rules.{symbol_of}
 use Rattle.program_link.specs.Known.{symbol_by}
 
 -- ---- different names
@@ -147,3 +148,7 @@ putchar_no_array a n named e = omega (arith, ap length (ap behind e ∙ behind_a
 pub getchar_no_array : (a : List ℕ) (n : ℕ) → is_identifier a ≡ true → codes "__builtin_getchar" ≡ symbol_by a (codes ".a") n → ⊥
 unfolding behind
 getchar_no_array a n named e = omega (arith, ap length (ap behind e ∙ behind_array a n named))
+
+pub same_version : (a b : List ℕ) (f g n k : ℕ) (r s : Bool) → is_identifier a ≡ true → is_identifier b ≡ true → f < 2 ^ 64 → g < 2 ^ 64 → n < 2 ^ 64 → k < 2 ^ 64
+    → symbol_of a f n r ≡ symbol_of b g k s → (f ≡ g) × (n ≡ k)
+same_version a b f g n k r s = ?

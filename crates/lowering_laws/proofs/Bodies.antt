@@ -4,6 +4,7 @@ use Rattle.std.specs.Prelude.{Option, slice_get, option_map, is_some, take}
 use Rattle.std.specs.List.{flat_map, filter_map, enumerate_from, cons_option}
 use Rattle.std.specs.Option.{option_map_or}
 use Rattle.std.proofs.lemmas.Option.{none-some, same_Some}
+use Rattle.std.proofs.lemmas.List.Folds.{flat_map-map}
 use Rattle.std.proofs.lemmas.List.FromFn.{length-map-range_with_len}
 use Rattle.std.proofs.lemmas.List.Sums.{sum_by-cons}
 use Rattle.gimple_ir.specs.declared.types.ScalarType.{ScalarType}
@@ -25,6 +26,7 @@ use Rattle.gimple_ir.specs.declared.unit.CallUse.{CallUse}
 use Rattle.gimple_ir.specs.declared.unit.Member.{Member}
 use Rattle.gimple_ir.specs.declared.versioned.VersionedFunction.{VersionedFunction}
 use Rattle.gimple_ir.specs.CodeBound.{components_of}
+use Rattle.gimple_ir.specs.Statements.{component_types}
 use Rattle.gimple_meaning.specs.Source.{components_from, pairs_from}
 use Rattle.gimple_meaning.specs.Source as source
 use Rattle.gimple_meaning.specs.Steps as steps
@@ -101,6 +103,9 @@ edge_at f place pre (s ∷ ss) (suc i) to g args here =
 
 abbrev pub types_of : List Variable → List (List ScalarType)
 types_of variables = map (λ (v : Variable). v.types) variables
+
+pub types_same : (variables : List Variable) → flat_map (λ (types : List ScalarType). types) (types_of variables) ≡ component_types variables
+types_same variables = flat_map-map (λ (types : List ScalarType). types) (λ (w : Variable). w.types) variables
 
 first_same : (vs : List Variable) (v : ℕ) → first_component (types_of vs) v ≡ source.first_component vs v
 first_same [] zero = refl

@@ -4,9 +4,9 @@ use Rattle.std.specs.Prelude.{All, Option, IsSomeAnd, slice_get, option_map}
 use Rattle.std.specs.List.{flat_map, list_all, zip}
 use Rattle.std.specs.Option.{option_map_or}
 use Rattle.std.proofs.lemmas.Option.{none-some, same_Some, slice_get-map, slice_get_within}
+use Rattle.std.proofs.lemmas.List.{length-map}
 use Rattle.std.proofs.lemmas.List.Concat.{length-flat_map}
 use Rattle.std.proofs.lemmas.List.Elements.{All-nil, All-cons, All-append, All-head, All-tail}
-use Rattle.std.proofs.lemmas.List.FromFn.{length-map-range_with_len}
 use Rattle.gimple_ir.specs.declared.types.ScalarType.{ScalarType}
 use Rattle.gimple_ir.specs.declared.types.ScalarType.TheVariants.{Int}
 use Rattle.gimple_ir.specs.declared.types.ElementType.TheVariants as element
@@ -23,7 +23,6 @@ use Rattle.gimple_ir.specs.declared.types.Variable.{Variable}
 use Rattle.gimple_ir.specs.declared.types.Function.{Function}
 use Rattle.gimple_ir.specs.declared.types.Program.{Program}
 use Rattle.gimple_ir.specs.declared.types.Statement.{Statement}
-use Rattle.gimple_ir.specs.declared.lattice.Binding.{Binding}
 use Rattle.gimple_ir.specs.declared.lattice.Binding.TheVariants as binding
 use Rattle.gimple_ir.specs.declared.plan.Version.{Version}
 use Rattle.gimple_ir.specs.declared.plan.Plan.{Plan}
@@ -40,14 +39,16 @@ use Rattle.gimple_meaning.specs.Source.{first_component, operands_of, components
 use Rattle.func_summary.specs.Summaries.{arrays_in}
 use Rattle.func_summary.specs.Summarised.{IsSummarised}
 use Rattle.func_summary.proofs.Checked.{both-true}
-use Rattle.ipa_plan.specs.Plans.{bindings_of}
-use Rattle.ipa_transform.specs.Versioned.{use_of}
+use Rattle.ipa_plan.specs.Rules.{Choice, kept_from}
+use Rattle.ipa_transform.specs.Versioned.{use_of, picked}
 use Rattle.rv64_select.specs.Assembly.{type_of, type_of_component, element_of}
 use Rattle.program_link.specs.Versions.{member_of}
 use Rattle.machine_laws.specs.Typed.{TargetTyped, ArgumentsTyped}
 use Rattle.lowering_laws.specs.States.{function_of_version}
 use Rattle.lowering_laws.specs.Linked.{given_type, result_type_of}
-use Rattle.lowering_laws.proofs.Lists.{there, ranged}
+use Rattle.program_link.proofs.VersionFacts.{VersionFacts}
+use Rattle.lowering_laws.proofs.Lists.{there}
+use Rattle.lowering_laws.proofs.Bindings.{binding_says, kept_below, picked_at}
 use Rattle.lowering_laws.proofs.Standing.{version_at}
 use Rattle.lowering_laws.proofs.Uses.{array_use_at}
 use Rattle.lowering_laws.proofs.Typing.{component_type, alike_is, operands_alike, known_type, arguments_typed, front_types}
@@ -120,39 +121,44 @@ argument_values vs (One a ∷ args) h = All-cons IsOperand a (flat_map (operands
 argument_values vs (Whole v ∷ args) h =
     All-append IsOperand (operands_of vs (Whole v)) (flat_map (operands_of vs) args) (components_plain (first_component vs v) (components_of vs v)) (argument_values vs args (All-tail IsArgument (Whole v) args h))
 
-abbrev argument_of : Binding → ℕ
-argument_of (binding.Arg k) = k
-argument_of _ = 0
-
--- the parameter components of a version, each from the argument of its number
-pub bound_here : (count i k : ℕ) → slice_get (bindings_of count) i ≡ Some (binding.Arg k) → (i < count) × (k ≡ i)
-bound_here count i k here =
-    let inside : i < count = omega (arith, slice_get_within (bindings_of count) i (binding.Arg k) here, length-map-range_with_len binding.Arg 0 count) in
-    let same = ap argument_of (same_Some (binding.Arg (0 + i)) (binding.Arg k) (sym (ranged binding.Arg 0 count i inside) ∙ here)) in
-    let first : 0 + i ≡ i = omega arith in
-    (inside, sym same ∙ first)
-
 some_and : (w : VersionedFunction) (type : ScalarType) (o : Option Operand) → option_map (type_of w) o ≡ Some type → IsSomeAnd o (λ a. type_of w a ≡ type)
 some_and w type None h = absurd (none-some type h)
 some_and w type (Some a) h = same_Some (type_of w a) type h
 
-pub passed_typed : (p : Program) (merged : Merged) (plan : Plan) (v other : Version) (f c : Function) (args : List Arg) → length args ≡ c.parameters → c.parameters ≤ length c.variables
+-- what a call has is as many components as its function takes, of their types
+pub arguments_count : (p : Program) (merged : Merged) (plan : Plan) (v : Version) (f c : Function) (args : List Arg) → length args ≡ c.parameters → c.parameters ≤ length c.variables
     → list_all (λ pair. argument_fits (scope_of p f) pair.0 pair.1) (zip args c.variables) ≡ true
-    → ArgumentsTyped (version_at p merged plan v f) (version_at p merged plan other c) (flat_map (operands_of f.variables) args)
-passed_typed p merged plan v other f c args count few h i k here =
+    → length (flat_map (operands_of f.variables) args) ≡ parameter_components c
+arguments_count p merged plan v f c args count few h =
+    let types = λ (w : Variable). w.types in
+    let ops = flat_map (operands_of f.variables) args in
+    sym (length-map ops (type_of (version_at p merged plan v f)))
+    ∙ ap length (arguments_typed p merged plan v f args c.variables (omega (arith, count, few)) h ∙ ap (λ (n : ℕ). flat_map types (take n c.variables)) count)
+    ∙ length-flat_map types (take c.parameters c.variables)
+
+-- each argument that a version takes has its parameter component's type
+pub passed_typed : (p : Program) (merged : Merged) (plan : Plan) (choice : Choice) (v other : Version) (f c : Function) (args : List Arg) → VersionFacts p merged plan choice other c
+    → length args ≡ c.parameters → c.parameters ≤ length c.variables
+    → list_all (λ pair. argument_fits (scope_of p f) pair.0 pair.1) (zip args c.variables) ≡ true
+    → ArgumentsTyped (version_at p merged plan v f) (version_at p merged plan other c) (picked (flat_map (operands_of f.variables) args) (kept_from 0 other.bindings))
+passed_typed p merged plan choice v other f c args stands count few h i k here =
     let own = version_at p merged plan v f in
     let called = version_at p merged plan other c in
     let types = λ (w : Variable). w.types in
     let ops = flat_map (operands_of f.variables) args in
-    let r = bound_here (parameter_components c) i k here in
+    let r = binding_says (choice.needed other.function) other.vector other.bindings stands.known.bindings i (binding.Arg k) here in
     let P = flat_map types (take c.parameters c.variables) in
     let size : length P ≡ parameter_components c = length-flat_map types (take c.parameters c.variables) in
-    let inside : i < length P = omega (arith, r.0, size) in
+    let inside : i < length P = omega (arith, slice_get_within other.bindings i (binding.Arg k) here, stands.bindings, size) in
     let all : map (type_of own) ops ≡ P =
     arguments_typed p merged plan v f args c.variables (omega (arith, count, few)) h ∙ ap (λ (n : ℕ). flat_map types (take n c.variables)) count in
     let one = there P i inside in
     let parameter : type_of_component called i ≡ one.0 = component_type p merged plan other c i one.0 (front_types c.variables c.parameters i inside ∙ one.1) in
     let typed : option_map (type_of own) (slice_get ops i) ≡ Some (type_of_component called i) =
     sym (slice_get-map (type_of own) ops i) ∙ ap (λ (xs : List ScalarType). slice_get xs i) all ∙ one.1 ∙ ap (λ (t : ScalarType). Some t) (sym parameter) in
-    subst (λ (j : ℕ). IsSomeAnd (slice_get ops j) (λ a. type_of own a ≡ type_of_component called i)) (sym r.1)
-    (some_and own (type_of_component called i) (slice_get ops i) typed)
+    let many : length ops ≡ length other.bindings = arguments_count p merged plan v f c args count few h ∙ sym stands.bindings in
+    let below = subst (λ (n : ℕ). All (λ j. j < n) (kept_from 0 other.bindings)) (sym many) (kept_below other.bindings) in
+    let first : 0 + i ≡ i = omega arith in
+    let picks : slice_get (picked ops (kept_from 0 other.bindings)) k ≡ slice_get ops i =
+    picked_at ops (kept_from 0 other.bindings) below k i (r.1 ∙ ap (λ (n : ℕ). Some n) first) in
+    some_and own (type_of_component called i) (slice_get (picked ops (kept_from 0 other.bindings)) k) (ap (option_map (type_of own)) picks ∙ typed)

@@ -34,7 +34,7 @@ use Rattle.rv64_select.specs.Assembly.{type_of, type_of_component}
 use Rattle.program_link.proofs.Facts.{three_true}
 use Rattle.lowering_laws.proofs.Lists.{there}
 use Rattle.lowering_laws.proofs.Standing.{version_at}
-use Rattle.lowering_laws.proofs.Acting.{types_same}
+use Rattle.lowering_laws.proofs.Bodies.{types_same}
 
 -- ---- lists
 

@@ -6,6 +6,8 @@
 
 ghost use Rattle.lowering_laws.specs.Laws.{VersionsLaw, TypedLaw};
 
+use program_link::versioned;
+
 /// The run of the versions stands for that of the source program, step by step, while this is defined.
 pub fn versions_keep()
     ensures { VersionsLaw }
@@ -14,4 +16,6 @@ pub fn versions_keep()
 /// The versions are well formed: their numbers name what is there, labels stand once, and types agree.
 pub fn typed_versions()
     ensures { TypedLaw }
-{}
+{
+    versioned();
+}

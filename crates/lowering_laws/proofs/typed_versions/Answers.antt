@@ -1,6 +1,5 @@
-use Rattle.lowering_laws.proofs.Typed.{program_typed}
+use Rattle.lowering_laws.proofs.Typed.{versions_typed}
 use Rattle.lowering_laws.proofs.typed_versions.Goals as goal
 
 pub returns : goal.returns
-returns c = λ p merged plan summarised is.
-    program_typed p merged plan summarised (c.planned.ensures.plan merged plan (c.planned.ensures.summarised p merged summarised) is)
+returns c = λ p merged plan summarised planned. versions_typed p merged plan summarised planned (c.versioned.ensures.fit p merged plan summarised planned)

@@ -14,7 +14,7 @@ use Rattle.gimple_ir.specs.declared.unit.ArrayUse.{ArrayUse}
 use Rattle.gimple_ir.specs.declared.versioned.VersionedFunction.{VersionedFunction}
 use Rattle.gimple_ir.specs.Programs.{IsProgramArray}
 use Rattle.func_summary.specs.Summarised.{IsSummarised}
-use Rattle.ipa_plan.specs.Laws.{IsPlanned}
+use Rattle.ipa_plan.specs.Rules.{IsPlanned}
 use Rattle.program_link.specs.Versions.{functions_of}
 use Rattle.program_link.specs.Linking.{limits_of, first_passed}
 use Rattle.program_link.specs.Laws.{VersionsFit, SymbolsAgree, SymbolsDiffer, MainStands, IsKeptUse, UsesKept, TextSmall, ArraysSmall}

@@ -5,9 +5,10 @@
 
 ghost use Rattle.link_laws.specs.Laws.{LinkedLoads, LinkedFollows};
 
+use gimple_meaning::{following, keeping};
 use image_laws::{direct_images, starts};
 use ipa_plan::planned;
-use lowering_laws::{lock_step, typed_versions};
+use lowering_laws::{typed_versions, versions_keep};
 use machine_laws::machine_follows;
 use program_link::versioned;
 
@@ -22,5 +23,7 @@ pub fn linked_image_follows()
     starts();
     machine_follows();
     typed_versions();
-    lock_step();
+    versions_keep();
+    keeping();
+    following();
 }

@@ -4,3 +4,4 @@ pub mod Living
 pub mod PlanLaws
 pub mod Arguments
 pub mod Plannable
+pub mod ExampleLaws

@@ -4,11 +4,13 @@
 //! `plan` has the live functions marked, counts once how many of them stand before each function, and then makes their versions.
 #![tactic(auto)]
 
+mod example;
 mod laws;
 mod numbering;
 mod planning;
 mod symbols;
 mod versions;
 
+pub use example::reduced_plan;
 pub use laws::planned;
 pub use planning::plan;

@@ -1,5 +1,7 @@
 pub mod RunLaws
 pub mod LockSteps
+pub mod ShownLaws
+pub mod KeepingLaws
 pub mod WorkedRows
 pub mod Parts
 pub mod Places

@@ -2,6 +2,7 @@ pub mod RunLaws
 pub mod LockSteps
 pub mod ShownLaws
 pub mod KeepingLaws
+pub mod Simulations
 pub mod WorkedRows
 pub mod Parts
 pub mod Places

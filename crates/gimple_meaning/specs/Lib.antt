@@ -7,6 +7,7 @@ pub mod Laws
 pub mod LockStep
 pub mod Shown
 pub mod Keeping
+pub mod Lower
 pub mod Held
 pub mod Moves
 pub mod Stages

@@ -5,7 +5,6 @@ pub mod TemplateLaws
 pub mod StubLaws
 pub mod EncodingLaws
 pub mod ImageLaws
-pub mod LoadableLaws
 pub mod SelectionLaws
 pub mod FrameLaws
 pub mod RegisterLaws

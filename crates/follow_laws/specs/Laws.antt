@@ -5,7 +5,8 @@ use Rattle.rv64_meaning.specs.Machine.{Segments, State, Go, fetch, effect, exec}
 use Rattle.gimple_meaning.specs.Systems.{System, Machine, Running, Ended}
 use Rattle.gimple_meaning.specs.Systems as program
 use Rattle.gimple_meaning.specs.Run.{run}
-use Rattle.follow_laws.specs.Follows.{RunFollows}
+use Rattle.gimple_meaning.specs.Shown.{shown_of, RunFollows}
+use Rattle.follow_laws.specs.Follows.{shown_by}
 use Rattle.follow_laws.specs.Relation.{StandsAt, Comes, Leads, EndsWith, Advances}
 
 -- ---- coming to states
@@ -42,10 +43,6 @@ BackStands = (m : Segments) (address : ℕ) (front back : List Instr) → Stands
 
 -- ---- following
 
--- what the machine does before it comes to a state that follows a program
-abbrev pub FollowsBefore : Type 0
-FollowsBefore = (m : Segments) (s t : State) (runs : ℕ → program.State) → Comes m s t → RunFollows (λ k. exec m k t) runs → RunFollows (λ k. exec m k s) runs
-
 -- Where the machine meets each step of a program: the outputs are the same there, the machine makes a step from one meeting to the
 -- next or a rank falls, and where the program ends, the machine does. Nothing is asked once the program is undefined.
 pub record Meets (m : Segments) (runs : ℕ → program.State) (states : ℕ → State) (ranks : ℕ → ℕ) : Type 0 where
@@ -57,4 +54,5 @@ pub record Meets (m : Segments) (runs : ℕ → program.State) (states : ℕ →
 abbrev pub SimulationFollows : Type 0
 SimulationFollows =
     (m : Segments) (system : System) (p : Machine) (states : ℕ → State) (ranks : ℕ → ℕ)
-    → Meets m (run system (Running p)) states ranks → RunFollows (λ k. exec m k (states 0)) (run system (Running p))
+    → Meets m (run system (Running p)) states ranks
+    → RunFollows (λ k. shown_by (exec m k (states 0))) (λ n. shown_of (run system (Running p) n))

@@ -3,16 +3,14 @@
 //!
 //! In specs/, `Follows` has the promise, `Relation` what it is for the machine to come from one state to another and for
 //! instructions to stand at a place, `Laws` how ways are joined and why a simulation is enough, `Effects` what the templates of
-//! code and the stubs do, `Selections` where the code of steps stands and what operands leave, `Frames` how a frame lies in memory, `Encodings` that all of it has
-//! words, `Images` what the machine finds in an image, and `Patched` that relocations make a function's code in an object its code
-//! at an address.
+//! code and the stubs do, `Selections` where the code of steps stands and what operands leave, `Frames` how a frame lies in memory,
+//! `Encodings` that all of it has words, and `Patched` that relocations make a function's code in an object its code at an address.
 #![tactic(auto)]
 
 ghost use Rattle.follow_laws.specs.Effects.{ConstantSets, LoadSets, StoreStores, CallGoes, EnterMakesFrame, LeaveReturns, StartCalls, ExitEnds, PutcharWrites, GetcharReads};
 ghost use Rattle.follow_laws.specs.Encodings.{ConstantEncodes, LoadEncodes, StoreEncodes, CallEncodes, EnterEncodes, LeaveEncodes, StubsEncode, BothEncode};
 ghost use Rattle.follow_laws.specs.Frames.{LowByteKept, FreshHeld, StoreApart, StoreSets, OperandHeld, DataReached};
-ghost use Rattle.follow_laws.specs.Images.{ImageLoads, ImageHasSegments, ImageHasCode, CodeHasWords, CodeJoins};
-ghost use Rattle.follow_laws.specs.Laws.{ComesOn, LeadsOn, LeadsTwice, LeadsComes, ComesToLead, ComesToEnd, InstructionLeads, FrontStands, BackStands, FollowsBefore, SimulationFollows};
+ghost use Rattle.follow_laws.specs.Laws.{ComesOn, LeadsOn, LeadsTwice, LeadsComes, ComesToLead, ComesToEnd, InstructionLeads, FrontStands, BackStands, SimulationFollows};
 ghost use Rattle.follow_laws.specs.Patched.{PatchedIsDirect, OwnNamesPatched, SameLength, NamesStand, PlaceHasName};
 ghost use Rattle.follow_laws.specs.Selections.{StepsStand, OperandSets, OperandEncodes};
 
@@ -27,7 +25,6 @@ pub fn ways()
     ensures instruction { InstructionLeads }
     ensures front { FrontStands }
     ensures back { BackStands }
-    ensures before { FollowsBefore }
 {}
 
 /// A machine that meets a program step after step follows it.
@@ -51,15 +48,6 @@ pub fn stubs()
     ensures exit { ExitEnds }
     ensures putchar { PutcharWrites }
     ensures getchar { GetcharReads }
-{}
-
-/// What the machine finds in an image.
-pub fn images()
-    ensures loads { ImageLoads }
-    ensures segments { ImageHasSegments }
-    ensures code { ImageHasCode }
-    ensures words { CodeHasWords }
-    ensures joined { CodeJoins }
 {}
 
 /// That the instructions of the templates and the stubs have words.

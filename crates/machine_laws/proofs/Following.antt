@@ -12,14 +12,17 @@ use Rattle.gimple_meaning.specs.Systems.{Frame, Machine, fresh, first_arrays, st
 use Rattle.gimple_meaning.specs.Systems as program
 use Rattle.gimple_meaning.specs.Run.{run}
 use Rattle.gimple_meaning.specs.Steps.{Code, act_in, act_at, opened, opened_by}
-use Rattle.rv64_meaning.specs.Machine.{Segments, State, exec}
-use Rattle.follow_laws.specs.Follows.{RunFollows}
+use Rattle.rv64_meaning.specs.Machine.{Segments, State, Standing, At, outcome_of, exec}
+use Rattle.gimple_meaning.specs.Shown.{Goes, shown_of, RunFollows}
+use Rattle.gimple_meaning.specs.Lower.{Moves, Works, Rests, Simulates}
+use Rattle.gimple_meaning.specs.Lower as lower
+use Rattle.gimple_meaning.proofs.Simulations.{follows_before, simulation_follows}
+use Rattle.follow_laws.specs.Follows.{shown_by}
 use Rattle.follow_laws.specs.Relation.{ComesTo, Advances}
 use Rattle.follow_laws.specs.Relation as relation
-use Rattle.follow_laws.proofs.WayLaws.{reach_on, comes_of, follows_before}
+use Rattle.follow_laws.proofs.WayLaws.{reach_on, comes_of}
 use Rattle.follow_laws.proofs.StubLaws.{start_calls}
-use Rattle.follow_laws.proofs.SimulationLaws.{Moves, Works, Rests, Simulates, simulation_follows}
-use Rattle.follow_laws.proofs.SimulationLaws as simulation
+use Rattle.follow_laws.proofs.SimulationLaws.{machine, steady, comes_there, leads_there, ends_there}
 use Rattle.machine_laws.specs.Linked.{LinkedProgram, linked_step, linked_code, linked_system, step_in, step_now, steps_left_in, steps_left}
 use Rattle.machine_laws.specs.Typed.{ProgramTyped}
 use Rattle.machine_laws.specs.Layouts.{Layout, IsPlaced, top, first_return}
@@ -56,8 +59,10 @@ answers m l p w typed rows q s related (Some form) now = rows form m l p w typed
 -- ---- the simulation
 
 -- related states, with the steps that are left as rank
-pub record Ranked (l : Layout) (p : LinkedProgram) (rank : ℕ) (q : Machine) (s : State) : Type 0 where
-  pub related : Related l p q s
+pub record Ranked (l : Layout) (p : LinkedProgram) (rank : ℕ) (q : Machine) (x : Standing) : Type 0 where
+  pub state : State
+  pub at : x ≡ At state
+  pub related : Related l p q state
   pub rank_is : rank ≡ steps_left p q
 
 module _ (m : Segments) (l : Layout) (p : LinkedProgram) (w : IsPlaced m l p) (typed : ProgramTyped p) (rows : AllRows) where
@@ -65,26 +70,31 @@ module _ (m : Segments) (l : Layout) (p : LinkedProgram) (w : IsPlaced m l p) (t
   same_output [] q s related = absurd related
   same_output (frame ∷ older) q s a = a.holds.written
 
-  moves : (left : ℕ) (new : Machine) (s t : State) → Advances m s t left (steps_left p new) → Related l p new t → Moves m (Ranked l p) left new s
-  moves left new s t (relation.Works lead) related = Works (steps_left p new) t lead (record { related = related; rank_is = refl })
-  moves left new s t (relation.Rests comes low) related = Rests (steps_left p new) t comes (record { related = related; rank_is = refl }) low
+  moves : (left : ℕ) (new : Machine) (s t : State) → Advances m s t left (steps_left p new) → Related l p new t → Moves (machine m) (Ranked l p) left new (At s)
+  moves left new s t (relation.Works lead) related = Works (steps_left p new) (At t) (leads_there m s t lead) (record { state = t; at = refl; related = related; rank_is = refl })
+  moves left new s t (relation.Rests comes low) related = Rests (steps_left p new) (At t) (comes_there m s t comes) (record { state = t; at = refl; related = related; rank_is = refl }) low
 
-  moved : (left : ℕ) (s : State) (x : program.State) → Answers m l p s left x → simulation.Answers m (Ranked l p) left x s
+  moved : (left : ℕ) (s : State) (x : program.State) → Answers m l p s left x → lower.Answers (machine m) (Ranked l p) left x (At s)
   moved left s (program.Running new) a = moves left new s a.state a.advances a.related
-  moved left s (program.Ended old status) a = a
+  moved left s (program.Ended old status) a = ends_there m s status old.output a
   moved left s (program.Undefined old function place) a = tt
 
-  keeps : (rank : ℕ) (q : Machine) (s : State) → Ranked l p rank q s → simulation.Answers m (Ranked l p) rank (step (linked_system p) (program.Running q)) s
-  keeps rank q s r =
-      subst (λ n. simulation.Answers m (Ranked l p) n (step (linked_system p) (program.Running q)) s) (sym r.rank_is)
-      (moved (steps_left p q) s (step (linked_system p) (program.Running q)) (answers m l p w typed rows q s r.related (step_now p q) refl))
+  same : (rank : ℕ) (q : Machine) (x : Standing) → Ranked l p rank q x → shown_by (outcome_of x) ≡ Goes q.output
+  same rank q x r = ap (λ (y : Standing). shown_by (outcome_of y)) r.at ∙ ap (λ (o : List ℕ). Goes o) (same_output q.frames q r.state r.related)
 
-  simulates : Simulates m (linked_system p) (Ranked l p)
-  simulates = record { same = λ rank q s r. same_output q.frames q s r.related; keeps = keeps }
+  keeps : (rank : ℕ) (q : Machine) (x : Standing) → Ranked l p rank q x → lower.Answers (machine m) (Ranked l p) rank (step (linked_system p) (program.Running q)) x
+  keeps rank q x r =
+      subst (λ (y : Standing). lower.Answers (machine m) (Ranked l p) rank (step (linked_system p) (program.Running q)) y) (sym r.at)
+      (subst (λ n. lower.Answers (machine m) (Ranked l p) n (step (linked_system p) (program.Running q)) (At r.state)) (sym r.rank_is)
+      (moved (steps_left p q) r.state (step (linked_system p) (program.Running q)) (answers m l p w typed rows q r.state r.related (step_now p q) refl)))
+
+  simulates : Simulates (machine m) (linked_system p) (Ranked l p)
+  simulates = record { same = same; keeps = keeps }
 
   -- from related states the machine follows
-  pub related_follows : (q : Machine) (s : State) → Related l p q s → RunFollows (λ k. exec m k s) (run (linked_system p) (program.Running q))
-  related_follows q s related = simulation_follows m (linked_system p) (Ranked l p) simulates (steps_left p q) q s (record { related = related; rank_is = refl })
+  pub related_follows : (q : Machine) (s : State) → Related l p q s → RunFollows (λ k. shown_by (exec m k s)) (λ n. shown_of (run (linked_system p) (program.Running q) n))
+  related_follows q s related =
+      simulation_follows (machine m) (steady m) (linked_system p) (Ranked l p) simulates (steps_left p q) q (At s) (record { state = s; at = refl; related = related; rank_is = refl })
 
 -- ---- the start
 
@@ -126,11 +136,12 @@ module _ (m : Segments) (l : Layout) (p : LinkedProgram) (w : IsPlaced m l p) (t
       } in
       entry_run m l p w typed [] (first_arrays p.arrays) input [] p.main f first_return [] u ready known k.place (λ j v e. absurd (none-some v e)) (omega (arith, k.stack)) (nothing_taken f known))
 
-  pub start_follows : AllRows → (input : List ℕ) (s : State) → AtStart m l p input s → RunFollows (λ k. exec m k s) (linked_run p input)
+  pub start_follows : AllRows → (input : List ℕ) (s : State) → AtStart m l p input s → RunFollows (λ k. shown_by (exec m k s)) (λ n. shown_of (linked_run p input n))
   start_follows rows input s a =
       let c = started input s a in
       let cells = first_cells a.main a.known in
       let q : Machine = record { arrays = first_arrays p.arrays; frames = fresh p.main (opened (linked_code p a.main) []) ∷ []; input = input; output = [] } in
-      let runs = run (linked_system p) (program.Running q) in
-      let follows = follows_before m s c.state runs (comes_of m s c.state c.leads) (related_follows m l p w typed rows q c.state c.holds) in
-      subst (λ (x : List (Option Value)). RunFollows (λ k. exec m k s) (run (linked_system p) (program.Running (record { arrays = first_arrays p.arrays; frames = fresh p.main x ∷ []; input = input; output = [] })))) (sym cells) follows
+      let runs = λ (n : ℕ). shown_of (run (linked_system p) (program.Running q) n) in
+      let follows = follows_before (machine m) (steady m) (At s) (At c.state) runs (comes_there m s c.state (comes_of m s c.state c.leads)) (related_follows m l p w typed rows q c.state c.holds) in
+      subst (λ (x : List (Option Value)). RunFollows (λ k. shown_by (exec m k s))
+      (λ n. shown_of (run (linked_system p) (program.Running (record { arrays = first_arrays p.arrays; frames = fresh p.main x ∷ []; input = input; output = [] })) n))) (sym cells) follows

@@ -6,7 +6,8 @@ use Rattle.gimple_meaning.specs.Systems as program
 use Rattle.gimple_meaning.specs.Run.{run}
 use Rattle.rv64_meaning.specs.Machine.{Segments, State, exec}
 use Rattle.final_link.specs.Stubs.{start_address, start_stub}
-use Rattle.follow_laws.specs.Follows.{AreBytes, RunFollows}
+use Rattle.gimple_meaning.specs.Shown.{shown_of, RunFollows}
+use Rattle.follow_laws.specs.Follows.{shown_by, AreBytes}
 use Rattle.follow_laws.specs.Relation.{StandsAt}
 use Rattle.machine_laws.specs.Linked.{LinkedProgram, linked_system}
 use Rattle.machine_laws.specs.Typed.{ProgramTyped}
@@ -32,4 +33,4 @@ linked_run p input n = run (linked_system p) (start_in (linked_system p) p.array
 abbrev pub MachineFollows : Type 0
 MachineFollows =
     (m : Segments) (l : Layout) (p : LinkedProgram) → IsPlaced m l p → ProgramTyped p → (input : List ℕ) (s : State) → AtStart m l p input s
-    → RunFollows (λ k. exec m k s) (linked_run p input)
+    → RunFollows (λ k. shown_by (exec m k s)) (λ n. shown_of (linked_run p input n))

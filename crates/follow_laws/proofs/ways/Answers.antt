@@ -1,4 +1,4 @@
-use Rattle.follow_laws.proofs.WayLaws.{comes_on, comes_of, leads_on, leads_twice, comes_to_lead, comes_to_end, one, stands_front, stands_back, follows_before}
+use Rattle.follow_laws.proofs.WayLaws.{comes_on, comes_of, leads_on, leads_twice, comes_to_lead, comes_to_end, one, stands_front, stands_back}
 use Rattle.follow_laws.proofs.ways.Goals as goal
 
 pub returns : goal.returns
@@ -12,5 +12,4 @@ returns c = record {
   instruction = one;
   front = stands_front;
   back = stands_back;
-  before = follows_before;
 }

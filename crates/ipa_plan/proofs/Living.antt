@@ -94,11 +94,11 @@ listed {X} {Y} P g p a (x ∷ xs) h = by (p a) (h 0 a x (omega arith) refl) (lis
     by false first later = later
 
 -- the functions of the versions are the live ones
-pub functions_listed : (live : List Bool) (a : ℕ) (fs : List MergedFunction)
-    → map (λ (v : Version). v.function) (map (λ (e : ℕ × MergedFunction). version_of live e.0 e.1) (filter (λ (e : ℕ × MergedFunction). marked live e.0) (enumerate_from a fs)))
+pub functions_listed : (merged : Merged) (live : List Bool) (a : ℕ) (fs : List MergedFunction)
+    → map (λ (v : Version). v.function) (map (λ (e : ℕ × MergedFunction). version_of merged live e.0 e.1) (filter (λ (e : ℕ × MergedFunction). marked live e.0) (enumerate_from a fs)))
     ≡ filter (marked live) (range_with_len a (length fs))
-functions_listed live a [] = refl
-functions_listed live a (f ∷ fs) = by (marked live a) (functions_listed live (a + 1) fs)
+functions_listed merged live a [] = refl
+functions_listed merged live a (f ∷ fs) = by (marked live a) (functions_listed merged live (a + 1) fs)
   where
     rest : List (ℕ × MergedFunction)
     rest = filter (λ (e : ℕ × MergedFunction). marked live e.0) (enumerate_from (a + 1) fs)
@@ -107,7 +107,7 @@ functions_listed live a (f ∷ fs) = by (marked live a) (functions_listed live (
     others = filter (marked live) (range_with_len (a + 1) (length fs))
 
     numbers : List (ℕ × MergedFunction) → List ℕ
-    numbers es = map (λ (v : Version). v.function) (map (λ (e : ℕ × MergedFunction). version_of live e.0 e.1) es)
+    numbers es = map (λ (v : Version). v.function) (map (λ (e : ℕ × MergedFunction). version_of merged live e.0 e.1) es)
 
     by : (b : Bool) → numbers rest ≡ others → numbers (cond b ((a, f) ∷ rest) rest) ≡ cond b (a ∷ others) others
     by true h = ap (λ ns. a ∷ ns) h

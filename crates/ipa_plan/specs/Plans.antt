@@ -1,6 +1,7 @@
 -- The plan of a merged program: one version of each live function, by the functions' numbers, which takes all its arguments and gives its
 -- result; and the kept arrays.
-use Rattle.std.specs.Prelude.{◌≡◌, ◌<◌, ◌^◌, ℕ, List, ◌++◌, length, map, take, filter, count_by, replicate, Bool, true, codes, decimal, All}
+use Rattle.std.specs.Prelude.{◌≡◌, ◌<◌, ◌^◌, ℕ, List, ◌++◌, length, map, take, filter, count_by, replicate, Bool, true, codes, decimal, slice_get, All}
+use Rattle.std.specs.Option.{option_map_or}
 use Rattle.std.specs.List.{range_with_len, enumerate_from}
 use Rattle.gimple_ir.specs.Programs.{IsIdentifier}
 use Rattle.gimple_ir.specs.declared.lattice.Lattice.TheVariants.{Bottom}
@@ -33,13 +34,17 @@ version_symbol name number = name ++ (codes "." ++ decimal number)
 abbrev pub version_place : List Bool → ℕ → ℕ
 version_place live number = count_by (λ b. b) (take number live)
 
--- all arguments are passed
-abbrev pub call_plan : List Bool → Edge → CallPlan
-call_plan live e = record { target = version_place live e.callee; kept = all_of (length e.args) }
+-- how many parameter components a function has
+abbrev pub components_of : Merged → ℕ → ℕ
+components_of merged number = option_map_or (λ g. length g.summary.params) (slice_get merged.functions number) 0
+
+-- all that the callee takes is passed
+abbrev pub call_plan : Merged → List Bool → Edge → CallPlan
+call_plan merged live e = record { target = version_place live e.callee; kept = all_of (components_of merged e.callee) }
 
 -- the one version of the function with this number
-abbrev pub version_of : List Bool → ℕ → MergedFunction → Version
-version_of live number g = record {
+abbrev pub version_of : Merged → List Bool → ℕ → MergedFunction → Version
+version_of merged live number g = record {
   function = number;
   number = 0;
   vector = replicate (length g.summary.params) Bottom;
@@ -47,7 +52,7 @@ version_of live number g = record {
   result = true;
   symbol = version_symbol g.name number;
   size = g.summary.code_bound;
-  calls = map (call_plan live) g.summary.edges;
+  calls = map (call_plan merged live) g.summary.edges;
 }
 
 -- ---- the plan, where the live functions are marked
@@ -57,7 +62,7 @@ abbrev pub live_functions : Merged → List Bool → List (ℕ × MergedFunction
 live_functions merged live = filter (λ e. marked live e.0) (enumerate_from 0 merged.functions)
 
 abbrev pub versions_by : Merged → List Bool → List Version
-versions_by merged live = map (λ e. version_of live e.0 e.1) (live_functions merged live)
+versions_by merged live = map (λ e. version_of merged live e.0 e.1) (live_functions merged live)
 
 unfoldable pub plan_by : Merged → List Bool → Plan
 plan_by merged live = record { versions = versions_by merged live; arrays = kept_of merged live; code = 1 }

@@ -31,17 +31,25 @@ fn bindings(alloc: Global, components: u32) -> Result<List<Binding>, NoMemory>
     Ok(List::from_vec(bindings))
 }
 
-fn calls(alloc: Global, numbering: &Numbering, edges: &[Edge]) -> Result<List<CallPlan>, NoMemory>
+// The calls of a version; each passes all that its callee takes.
+fn calls(
+    alloc: Global,
+    merged: &Merged,
+    numbering: &Numbering,
+    edges: &[Edge],
+) -> Result<List<CallPlan>, NoMemory>
+    requires functions { All IsPlannedFunction merged.now.functions }
+    requires live { length numbering.now.live ≡ length merged.now.functions }
     requires numbering { IsNumbering numbering.now }
-    requires callees { All (λ e. e.callee < length numbering.now.live) edges.now }
-    requires arguments { All (λ e. length e.args < 2 ^ 32) edges.now }
-    ensures { IfOk result (λ calls. calls ≡ map (call_plan numbering.now.live) edges.now) }
+    requires callees { All (λ e. e.callee < length merged.now.functions) edges.now }
+    ensures { IfOk result (λ calls. calls ≡ map (call_plan merged.now numbering.now.live) edges.now) }
 {
     let mut calls = Vec::new(alloc);
     for edge in edges {
+        let callee = merged.functions.get(edge.callee as usize);
         calls.push(CallPlan {
             target: numbering.place(edge.callee),
-            kept: all_of(alloc, edge.args.len() as u32)?,
+            kept: all_of(alloc, callee.summary.params.len() as u32)?,
         })?;
     }
     Ok(List::from_vec(calls))
@@ -50,14 +58,17 @@ fn calls(alloc: Global, numbering: &Numbering, edges: &[Edge]) -> Result<List<Ca
 // The version of a live function, which has this number.
 fn version(
     alloc: Global,
+    merged: &Merged,
     numbering: &Numbering,
     number: u32,
     function: &MergedFunction,
 ) -> Result<Version, NoMemory>
+    requires functions { All IsPlannedFunction merged.now.functions }
+    requires live { length numbering.now.live ≡ length merged.now.functions }
     requires numbering { IsNumbering numbering.now }
-    requires callees { All (λ e. e.callee < length numbering.now.live) function.now.summary.edges }
+    requires callees { All (λ e. e.callee < length merged.now.functions) function.now.summary.edges }
     requires function { IsPlannedFunction function.now }
-    ensures { IfOk result (λ version. version ≡ version_of numbering.now.live number function.now) }
+    ensures { IfOk result (λ version. version ≡ version_of merged.now numbering.now.live number function.now) }
 {
     let summary = &function.summary;
     let components = summary.params.len() as u32;
@@ -70,7 +81,7 @@ fn version(
         result: true,
         symbol: version_symbol(alloc, &function.name, number)?,
         size: summary.code_bound,
-        calls: calls(alloc, numbering, summary.edges.as_slice())?,
+        calls: calls(alloc, merged, numbering, summary.edges.as_slice())?,
     })
 }
 
@@ -90,7 +101,7 @@ pub fn versions(
     let mut versions = Vec::new(alloc);
     for (number, function) in merged.functions.as_slice().iter().enumerate() {
         if numbering.is_live(number) {
-            versions.push(version(alloc, numbering, number as u32, function)?)?;
+            versions.push(version(alloc, merged, numbering, number as u32, function)?)?;
         }
     }
     Ok(List::from_vec(versions))

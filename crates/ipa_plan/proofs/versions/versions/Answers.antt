@@ -16,7 +16,7 @@ loop-number-preserved c =
     let inside : i < length functions = omega (arith, c.loop-number-test.true, ap length same) in
     let is = c.function-item.is ∙ ap (λ xs. get_or xs i item) same in
     let before = c.loop-number.versions.items in
-    let made = λ (e : ℕ × MergedFunction). version_of live e.0 e.1 in
+    let made = λ (e : ℕ × MergedFunction). version_of c.args.merged.now live e.0 e.1 in
     elim c.if-is_live.branch [
       | then-is_live+in_ok-version+in_ok-push w ↦
           let test : marked live i ≡ true = sym c.is_live.ensures ∙ w.if-is_live.true in

@@ -7,5 +7,5 @@ use Rattle.ipa_plan.proofs.versions.versions.Given as goal
 
 abbrev pub invariant-loop-number : goal.invariant-loop-number
 invariant-loop-number l =
-    l.versions.items ++ made_from (λ (e : ℕ × MergedFunction). version_of l.numbering.live e.0 e.1) (marked l.numbering.live) l.number l.merged.functions
+    l.versions.items ++ made_from (λ (e : ℕ × MergedFunction). version_of l.merged l.numbering.live e.0 e.1) (marked l.numbering.live) l.number l.merged.functions
     ≡ versions_by l.merged l.numbering.live

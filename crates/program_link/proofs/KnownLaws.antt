@@ -21,7 +21,7 @@ use Rattle.gimple_ir.specs.Names.{is_among}
 use Rattle.func_summary.specs.Summaries.{arrays_of, edges_of}
 use Rattle.func_summary.specs.Summarised.{module_of, IsSummarised}
 use Rattle.func_summary.proofs.Checked.{place_inside}
-use Rattle.ipa_plan.specs.Laws.{IsPlanned}
+use Rattle.ipa_plan.specs.Rules.{Choice, IsPlanned}
 use Rattle.ipa_transform.specs.Versioned.{versioned_of}
 use Rattle.rv64_select.specs.declared.item.Symbol.{Symbol}
 use Rattle.rv64_select.specs.declared.item.Symbol.TheVariants as symbols
@@ -182,9 +182,9 @@ calls_named plan P [] each = tt
 calls_named plan P (c ∷ cs) each = (each 0 c refl, calls_named plan P cs (λ k d at. each (suc k) d at))
 
 -- a call's target is a version
-pub target_there : (p : Program) (merged : Merged) (plan : Plan) (version : Version) (f : Function) → VersionFacts p merged plan version f
+pub target_there : (p : Program) (merged : Merged) (plan : Plan) (choice : Choice) (version : Version) (f : Function) → VersionFacts p merged plan choice version f
     → (k : ℕ) (c : CallPlan) → slice_get version.calls k ≡ Some c → IsAt plan.versions c.target
-target_there p merged plan version f known k c at =
+target_there p merged plan choice version f known k c at =
     let inside : k < length (edges_of f) = omega (arith, place_inside version.calls k c at, known.count) in
     let edge = found_at (edges_of f) k inside in
     let call = known.calls k edge.element c edge.here at in
@@ -264,19 +264,19 @@ unfolding object_of
 object_known names f h =
     all_from (IsKnown names) (own_symbol f ∷ map other_symbol (other_names f)) (λ e. cc, others_known names (other_names f) h)
 
-part_known : (p : Program) (merged : Merged) (plan : Plan) (version : Version) (f : Function) → IsSummarised p merged → VersionFacts p merged plan version f
+part_known : (p : Program) (merged : Merged) (plan : Plan) (choice : Choice) (version : Version) (f : Function) → IsSummarised p merged → VersionFacts p merged plan choice version f
     → All (IsKnown (image_names merged plan)) (object_of (versioned_of (member_of p merged plan version f))).symbols
-part_known p merged plan version f summarised known =
+part_known p merged plan choice version f summarised known =
     let P = Named merged plan in
     let v = versioned_of (member_of p merged plan version f) in
     let holds : HoldsOf P v = record {
       putchar = putchar_named merged plan;
       getchar = getchar_named merged plan;
-      calls = calls_named plan P version.calls (λ k c at. let target = target_there p merged plan version f known k c at in symbol_named merged plan c.target target.element target.here);
+      calls = calls_named plan P version.calls (λ k c at. let target = target_there p merged plan choice version f known k c at in symbol_named merged plan c.target target.element target.here);
       arrays = uses_named merged plan P (arrays_of (module_of p) f) (array_named merged plan)
           (recursion_from_All (λ (a : ℕ). list_any (nat_eq a) plan.arrays ≡ true) (arrays_of (module_of p) f) known.arrays);
     } in
-    object_known (image_names merged plan) v (others_hold P v.symbol (names_of_code v) (code_holds P v holds (version_fits p merged plan version f summarised known)))
+    object_known (image_names merged plan) v (others_hold P v.symbol (names_of_code v) (code_holds P v holds (version_fits p merged plan choice version f summarised known)))
 
 pub mapped_all : (Q : RelocObject → Type 0) (fs : List VersionedFunction) → AllByRecursion (λ f. Q (object_of f)) fs → AllByRecursion Q (map object_of fs)
 mapped_all Q [] h = tt
@@ -291,4 +291,4 @@ names_known p merged plan summarised planned =
     subst (λ (names : List (List ℕ)). All (λ (o : RelocObject). All (IsKnown names) o.symbols) parts) (sym (names_are merged plan parts))
     (all_from Q parts
     (mapped_all Q (functions_of p merged plan)
-    (versions_have p merged plan (λ (f : VersionedFunction). Q (object_of f)) summarised planned (λ version f known. part_known p merged plan version f summarised known))))
+    (versions_have p merged plan (λ (f : VersionedFunction). Q (object_of f)) summarised planned (λ version f known. part_known p merged plan planned.choice version f summarised known))))

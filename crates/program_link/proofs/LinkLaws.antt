@@ -19,6 +19,7 @@ use Rattle.func_summary.proofs.Checked.{all-from_places, all_at, place_inside}
 use Rattle.elf_container.specs.declared.relocatable.RelocObject.{RelocObject}
 use Rattle.ipa_plan.specs.Plans.{IsPlanOf}
 use Rattle.follow_laws.specs.Direct.{direct_image}
+use Rattle.ipa_plan.specs.Rules.{Choice}
 use Rattle.program_link.specs.Known.{IsNumbered, IsBounded}
 use Rattle.program_link.specs.Versions.{version_in, functions_of}
 use Rattle.program_link.specs.Objects.{object_of}
@@ -65,7 +66,7 @@ uses_known p merged f summarised =
     let same = same_length p merged summarised in
     All-weaker (λ (a : ℕ). a < length p.arrays) (λ (a : ℕ). a < length merged.arrays) (λ a lt. omega (arith, lt, same)) (arrays_of (module_of p) f) (arrays_known p f)
 
-pub targets_known : (p : Program) (merged : Merged) (plan : Plan) (version : Version) (f : Function) → VersionFacts p merged plan version f → All (λ c. c.target < length plan.versions) version.calls
-targets_known p merged plan version f known =
+pub targets_known : (p : Program) (merged : Merged) (plan : Plan) (choice : Choice) (version : Version) (f : Function) → VersionFacts p merged plan choice version f → All (λ c. c.target < length plan.versions) version.calls
+targets_known p merged plan choice version f known =
     all-from_places (λ (c : CallPlan). c.target < length plan.versions) version.calls
-    (λ k c at. let target = target_there p merged plan version f known k c at in place_inside plan.versions c.target target.element target.here)
+    (λ k c at. let target = target_there p merged plan choice version f known k c at in place_inside plan.versions c.target target.element target.here)

@@ -1,5 +1,5 @@
 -- What a member's steps read and pass: components that are there, and no more operands than its statements have.
-use Rattle.std.proofs.Common.{◌≡◌, ◌+◌, ◌<◌, ◌≤◌, ℕ, zero, suc, List, [], ◌∷◌, length, map, true, refl, ap, ◌∙◌, arith, Some, None}
+use Rattle.std.proofs.Common.{◌≡◌, ◌+◌, ◌-◌, ◌<◌, ◌≤◌, ℕ, zero, suc, List, [], ◌∷◌, ◌++◌, length, map, true, refl, sym, ap, ◌∙◌, subst, arith, Some, None}
 use Rattle.std.specs.Prelude.{All, Option, slice_get, sum_by}
 use Rattle.std.specs.List.{flat_map, filter_map, enumerate_from, cons_option, list_all}
 use Rattle.std.specs.Option.{option_map_or}
@@ -7,8 +7,7 @@ use Rattle.std.proofs.lemmas.List.{length-append}
 use Rattle.std.proofs.lemmas.List.Concat.{length-flat_map}
 use Rattle.std.proofs.lemmas.List.Elements.{All-nil, All-cons, All-append}
 use Rattle.std.proofs.lemmas.List.Folds.{flat_map-map}
-use Rattle.std.proofs.lemmas.List.FromFn.{length-range_with_len}
-use Rattle.std.proofs.lemmas.List.Sums.{sum_by-cons}
+use Rattle.std.proofs.lemmas.List.Sums.{sum_by-cons, sum_by-le-sum_by}
 use Rattle.gimple_ir.specs.declared.types.ScalarType.{ScalarType}
 use Rattle.gimple_ir.specs.declared.types.Operand.{Operand}
 use Rattle.gimple_ir.specs.declared.types.Operand.TheVariants.{Component, Literal}
@@ -21,13 +20,15 @@ use Rattle.gimple_ir.specs.declared.types.Statement.{Statement}
 use Rattle.gimple_ir.specs.declared.types.Statement.TheVariants.{Call}
 use Rattle.gimple_ir.specs.declared.summary.Edge.{Edge}
 use Rattle.gimple_ir.specs.declared.unit.CallUse.{CallUse}
+use Rattle.gimple_ir.specs.declared.lattice.Binding.{Binding}
+use Rattle.gimple_ir.specs.declared.lattice.Binding.TheVariants as binding
 use Rattle.gimple_ir.specs.declared.merged.Merged.{Merged}
 use Rattle.gimple_ir.specs.declared.plan.CallPlan.{CallPlan}
 use Rattle.gimple_ir.specs.declared.plan.Plan.{Plan}
 use Rattle.gimple_ir.specs.declared.plan.Version.{Version}
 use Rattle.gimple_ir.specs.declared.versioned.Pair.{Pair}
 use Rattle.gimple_ir.specs.declared.versioned.VersionedFunction.{VersionedFunction}
-use Rattle.gimple_ir.specs.CodeBound.{components_in, components_of}
+use Rattle.gimple_ir.specs.CodeBound.{components_in, components_of, argument_operands}
 use Rattle.gimple_ir.specs.Statements.{component_types, knows_component, knows_operand, knows_argument, knows_target}
 use Rattle.gimple_ir.specs.Programs.{scope_of}
 use Rattle.gimple_meaning.specs.Source.{components_from, pairs_from}
@@ -36,7 +37,7 @@ use Rattle.func_summary.proofs.Checked.{both-true, below, all_at, all_flat_map, 
 use Rattle.ipa_transform.specs.Versioned.{first_component, field_count, operands_of, struct_pairs, at_place, picked, kept_of, calls_in, versioned_of}
 use Rattle.ipa_transform.proofs.Sums.{field_count-within}
 use Rattle.rv64_select.specs.Versioned.{ComponentFits, OperandFits, TargetFits}
-use Rattle.ipa_plan.specs.Plans.{all_of}
+use Rattle.ipa_plan.specs.Rules.{Choice, kept_from, IsCallOf}
 use Rattle.program_link.specs.Versions.{call_use, member_of}
 use Rattle.program_link.proofs.Listing.{map_here}
 use Rattle.program_link.proofs.VersionFacts.{found_at, VersionFacts}
@@ -188,17 +189,19 @@ edge_there f place (t ∷ ts) (suc i) s e here is =
     past_one (edge_of f place t) rest (calls_in t) (calls_before ts i) (calls_are f place t)
     ∙ edge_there f (place + 1) ts i s e here (ap (λ k. edge_of f k s) at ∙ is)
 
--- the call at a place is that of its number, and all argument components are kept
-pub record IsCallAt (plan : Plan) (calls : List CallPlan) (n count : ℕ) : Type 0 where
-  pub inside : n < length (map (λ (c : CallUse). c.symbol) (map (call_use plan) calls))
-  pub kept : kept_of (map (call_use plan) calls) n ≡ all_of count
+-- the call at a place is that of its number, and keeps what its target takes
+pub record IsCallAt (plan : Plan) (choice : Choice) (version : Version) (n : ℕ) (e : Edge) : Type 0 where
+  pub inside : n < length (map (λ (c : CallUse). c.symbol) (map (call_use plan) version.calls))
+  pub call : CallPlan
+  pub rules : IsCallOf plan choice version e call
+  pub kept : kept_of (map (call_use plan) version.calls) n ≡ kept_from 0 rules.target.bindings
 
 pub edge_at : (f : Function) (i : ℕ) (s : Statement) (e : Edge) → slice_get f.body i ≡ Some s → edge_of f (0 + i) s ≡ Some e → slice_get (edges_of f) (calls_before f.body i) ≡ Some e
 edge_at f i s e here is = edge_there f 0 f.body i s e here is
 
-pub call_at : (program : Program) (merged : Merged) (plan : Plan) (version : Version) (f : Function) (i : ℕ) (s : Statement) (e : Edge) → VersionFacts program merged plan version f
-    → slice_get f.body i ≡ Some s → edge_of f (0 + i) s ≡ Some e → IsCallAt plan version.calls (calls_before f.body i) (length e.args)
-call_at program merged plan version f i s e known here is =
+pub call_at : (program : Program) (merged : Merged) (plan : Plan) (choice : Choice) (version : Version) (f : Function) (i : ℕ) (s : Statement) (e : Edge) → VersionFacts program merged plan choice version f
+    → slice_get f.body i ≡ Some s → edge_of f (0 + i) s ≡ Some e → IsCallAt plan choice version (calls_before f.body i) e
+call_at program merged plan choice version f i s e known here is =
     let n = calls_before f.body i in
     let at = edge_at f i s e here is in
     let within : n < length version.calls = omega (arith, place_inside (edges_of f) n e at, known.count) in
@@ -208,8 +211,41 @@ call_at program merged plan version f i s e known here is =
     let symbol = map_here (λ (c : CallUse). c.symbol) (map (call_use plan) version.calls) n (call_use plan found.element) made in
     record {
       inside = place_inside (map (λ (c : CallUse). c.symbol) (map (call_use plan) version.calls)) n (call_use plan found.element).symbol symbol;
+      call = found.element;
+      rules = call;
       kept = ap (λ o. option_map_or (λ (c : CallUse). c.kept) o []) made ∙ call.kept;
     }
 
-pub picked_of_all : {X : Type 0} (xs : List X) (ks : List ℕ) (count : ℕ) → ks ≡ all_of count → length (picked xs ks) ≤ count
-picked_of_all xs ks count is = omega (arith, picked_few xs ks, ap length is, length-range_with_len 0 count)
+-- ---- how much a call passes
+
+-- what stands at a place, if the list is so long
+one_more : {X : Type 0} (xs : List X) (i : ℕ) (rest : List X) → length rest ≤ length xs - (i + 1) → length (at_place xs i ++ rest) ≤ length xs - i
+one_more {X} xs i rest few = by (slice_get xs i) refl
+  where
+    by : (o : Option X) → slice_get xs i ≡ o → length (option_map_or (λ x. x ∷ []) o [] ++ rest) ≤ length xs - i
+    by None at = omega (arith, few)
+    by (Some x) at = omega (arith, few, place_inside xs i x at)
+
+-- ascending places pick no more than stands from the first of them on
+picked_from : {X : Type 0} (xs : List X) (i : ℕ) (bs : List Binding) → length (picked xs (kept_from i bs)) ≤ length xs - i
+picked_from xs i [] = omega arith
+picked_from xs i (binding.Arg k ∷ bs) = one_more xs i (picked xs (kept_from (i + 1) bs)) (picked_from xs (i + 1) bs)
+picked_from xs i (binding.Dead ∷ bs) = omega (arith, picked_from xs (i + 1) bs)
+picked_from xs i (binding.Const x ∷ bs) = omega (arith, picked_from xs (i + 1) bs)
+
+pub picked_kept : {X : Type 0} (xs : List X) (ks : List ℕ) (bs : List Binding) → ks ≡ kept_from 0 bs → length (picked xs ks) ≤ length xs
+picked_kept xs ks bs is = subst (λ (places : List ℕ). length (picked xs places) ≤ length xs) (sym is) (omega (arith, picked_from xs 0 bs))
+
+length-components_from : (first count : ℕ) → length (components_from first count) ≡ count
+length-components_from first zero = refl
+length-components_from first (suc n) = ap suc (length-components_from (first + 1) n)
+
+one_operand : (variables : List Variable) (a : Arg) → length (operands_of (types_of variables) a) ≤ argument_operands variables a
+one_operand variables (One a) = omega arith
+one_operand variables (Whole v) =
+    omega (arith, length-components_from (first_component (types_of variables) v) (field_count (types_of variables) v), fields_of variables v)
+
+-- no more than the operands of the call
+pub few_operands : (variables : List Variable) (args : List Arg) → length (flat_map (operands_of (types_of variables)) args) ≤ sum_by (argument_operands variables) args
+few_operands variables args =
+    omega (arith, length-flat_map (operands_of (types_of variables)) args, sum_by-le-sum_by (λ a. length (operands_of (types_of variables) a)) (argument_operands variables) args (one_operand variables))

@@ -1,5 +1,5 @@
 -- The objects of a plan's versions can be placed: no two symbols are alike, each version is defined once, and the text is short.
-use Rattle.std.proofs.Common.{◌≡◌, ℕ, zero, suc, ◌+◌, ◌^◌, ◌<◌, ◌≤◌, Bool, true, false, cond, not, List, [], ◌∷◌, ◌++◌, length, map, filter, Some, None, refl, sym, ap, ◌∙◌, subst, arith}
+use Rattle.std.proofs.Common.{◌≡◌, ℕ, zero, suc, ◌+◌, ◌*◌, ◌^◌, ◌<◌, ◌≤◌, Bool, true, false, cond, not, List, [], ◌∷◌, ◌++◌, length, map, filter, Some, None, refl, sym, ap, ◌∙◌, subst, arith}
 use Rattle.std.specs.Prelude.{All, slice_get, sum_by, codes}
 use Rattle.std.specs.List.{AllByRecursion}
 use Rattle.std.specs.Option.{option_map_or}
@@ -21,7 +21,7 @@ use Rattle.gimple_ir.specs.Names.{is_identifier, repeats}
 use Rattle.gimple_ir.specs.Programs.{IsIdentifier}
 use Rattle.func_summary.specs.Summarised.{IsSmallArray, IsSummarised}
 use Rattle.func_summary.proofs.Checked.{place_inside}
-use Rattle.ipa_plan.specs.Laws.{IsVersionIn, IsPlanned}
+use Rattle.ipa_plan.specs.Rules.{Choice, is_reduced, symbol_of, IsVersionIn, IsBefore, IsOrdered, IsPlanned}
 use Rattle.ipa_transform.specs.Versioned.{versioned_of}
 use Rattle.rv64_frame.specs.Frames.{HasFewSlots}
 use Rattle.rv64_frame.specs.Frames as frames
@@ -46,8 +46,8 @@ use Rattle.program_link.proofs.PartFrame.{has_frame, frame_is}
 use Rattle.program_link.proofs.PlanLaws.{main_stands, items_all, arrays_defined, limits_kept, same_symbols}
 use Rattle.program_link.proofs.KnownLaws.{names_are, names_known}
 use Rattle.program_link.proofs.DirectLaws.{entries_from, entry_at, members_are, words_same, all_stand, ends_same}
-use Rattle.program_link.proofs.Summing.{Climbs, climbing, some_of_all}
-use Rattle.program_link.proofs.SymbolLaws.{Apart, apart_once, apart_append, functions_differ, arrays_differ, kinds_differ, stubs_differ, putchar_no_function, getchar_no_function, putchar_no_array, getchar_no_array}
+use Rattle.program_link.proofs.Summing.{Climbs, climbing}
+use Rattle.program_link.proofs.SymbolLaws.{Apart, apart_once, apart_append, same_version, arrays_differ, kinds_differ, stubs_differ, putchar_no_version, getchar_no_version, putchar_no_array, getchar_no_array}
 
 -- ---- lists
 
@@ -124,36 +124,40 @@ parted_different p ns h =
 
 -- ---- the versions
 
--- what is asked of a version's frame and code
+-- what is asked of a version's frame, code and symbol
 record Bounded (p : Program) (merged : Merged) (plan : Plan) (version : Version) : Type 0 where
   slots : HasFewSlots (version_in p merged plan version)
-  bound : bound_of (version_in p merged plan version) ≤ option_map_or (λ g. g.summary.code_bound) (slice_get merged.functions version.function) 0
-  -- its symbol
+  bound : bound_of (version_in p merged plan version) ≤ version.size
   name : List ℕ
   named : is_identifier name ≡ true
-  symbol : version.symbol ≡ symbol_by name (codes ".") version.function
+  reduced : Bool
+  symbol : version.symbol ≡ symbol_of name version.function version.number reduced
+  few : version.number < 2 ^ 32
   inside : version.function < length merged.functions
 
-bounded : (p : Program) (merged : Merged) (plan : Plan) → IsSummarised p merged → (version : Version) → IsVersionIn merged plan version → Bounded p merged plan version
-bounded p merged plan summarised version known =
-    let k = version_facts p merged plan version summarised known in
+bounded : (p : Program) (merged : Merged) (plan : Plan) (choice : Choice) → IsSummarised p merged → (version : Version) → IsVersionIn merged plan choice version → Bounded p merged plan version
+bounded p merged plan choice summarised version known =
+    let k = version_facts p merged plan choice version summarised known in
     let facts = k.1 in
     record {
-      slots = version_has p merged plan HasFewSlots summarised (λ v f h. (version_fits p merged plan v f summarised h).slots) version known;
-      bound = subst (λ (f : Function). bound_of (versioned_of (member_of p merged plan version f)) ≤ option_map_or (λ g. g.summary.code_bound) (slice_get merged.functions version.function) 0)
-          (sym facts.is) (omega (arith, version_bound p merged plan version k.0 summarised facts, facts.bound));
+      slots = version_has p merged plan choice HasFewSlots summarised (λ v f h. (version_fits p merged plan choice v f summarised h).slots) version known;
+      bound = subst (λ (f : Function). bound_of (versioned_of (member_of p merged plan version f)) ≤ version.size)
+          (sym facts.is) (omega (arith, version_bound p merged plan choice version k.0 summarised facts, facts.size));
       name = k.0.name;
       named = facts.facts.name;
+      reduced = is_reduced facts.known.function version.bindings version.result;
       symbol = facts.symbol;
+      few = known.few;
       inside = place_inside merged.functions version.function known.function known.there;
     }
 
 all_bounded : (p : Program) (merged : Merged) (plan : Plan) → IsSummarised p merged → IsPlanned merged plan → AllByRecursion (Bounded p merged plan) plan.versions
 all_bounded p merged plan summarised planned =
-    recursion_from_All (Bounded p merged plan) plan.versions (All-weaker (IsVersionIn merged plan) (Bounded p merged plan) (bounded p merged plan summarised) plan.versions planned.versions)
+    recursion_from_All (Bounded p merged plan) plan.versions
+    (All-weaker (IsVersionIn merged plan planned.choice) (Bounded p merged plan) (bounded p merged plan planned.choice summarised) plan.versions planned.versions)
 
 all_few : (p : Program) (merged : Merged) (plan : Plan) → IsSummarised p merged → IsPlanned merged plan → AllByRecursion HasFewSlots (functions_of p merged plan)
-all_few p merged plan summarised planned = versions_have p merged plan HasFewSlots summarised planned (λ v f h. (version_fits p merged plan v f summarised h).slots)
+all_few p merged plan summarised planned = versions_have p merged plan HasFewSlots summarised planned (λ v f h. (version_fits p merged plan planned.choice v f summarised h).slots)
 
 -- the size of each frame is read from the words
 pub framed : (p : Program) (merged : Merged) (plan : Plan) → IsSummarised p merged → IsPlanned merged plan
@@ -166,38 +170,43 @@ framed p merged plan summarised planned =
 abbrev symbols_in : List Version → List (List ℕ)
 symbols_in versions = map (λ v. v.symbol) versions
 
-abbrev numbers_in : List Version → List ℕ
-numbers_in versions = map (λ v. v.function) versions
-
--- a version whose symbol has its function's number
+-- a version whose symbol has its numbers
 record IsNamed (v : Version) : Type 0 where
   name : List ℕ
   named : is_identifier name ≡ true
-  symbol : v.symbol ≡ symbol_by name (codes ".") v.function
+  reduced : Bool
+  symbol : v.symbol ≡ symbol_of name v.function v.number reduced
   small : v.function < 2 ^ 64
+  few : v.number < 2 ^ 64
 
 all_named : (p : Program) (merged : Merged) (plan : Plan) (vs : List Version) → length merged.functions < 2 ^ 32 → AllByRecursion (Bounded p merged plan) vs → AllByRecursion IsNamed vs
 all_named p merged plan [] few h = tt
 all_named p merged plan (v ∷ vs) few h =
-    (record { name = h.0.name; named = h.0.named; symbol = h.0.symbol; small = omega (arith, h.0.inside, few) }, all_named p merged plan vs few h.1)
+    (record { name = h.0.name; named = h.0.named; reduced = h.0.reduced; symbol = h.0.symbol; small = omega (arith, h.0.inside, few); few = omega (arith, h.0.few) }, all_named p merged plan vs few h.1)
 
-later_versions : (v : Version) (vs : List Version) → IsNamed v → AllByRecursion IsNamed vs → AllByRecursion (λ k. v.function ≡ k → ⊥) (numbers_in vs)
+-- those that stand before one another differ
+later_versions : (v : Version) (vs : List Version) → IsNamed v → AllByRecursion IsNamed vs → ((j : ℕ) (w : Version) → slice_get vs j ≡ Some w → IsBefore v w)
     → AllByRecursion (λ symbol. v.symbol ≡ symbol → ⊥) (symbols_in vs)
-later_versions v [] here h differ = tt
-later_versions v (w ∷ vs) here h differ = (
-  λ e. functions_differ here.name h.0.name v.function w.function here.named h.0.named here.small h.0.small differ.0 (sym here.symbol ∙ e ∙ h.0.symbol),
-  later_versions v vs here h.1 differ.1,
+later_versions v [] here h before = tt
+later_versions v (w ∷ vs) here h before = (
+  λ e.
+      let same = same_version here.name h.0.name v.function w.function v.number w.number here.reduced h.0.reduced here.named h.0.named here.small h.0.small here.few h.0.few (sym here.symbol ∙ e ∙ h.0.symbol) in
+      omega (arith, (before 0 w refl).numbers same.0, same.1),
+  later_versions v vs here h.1 (λ j x at. before (suc j) x at),
 )
 
-versions_apart : (vs : List Version) → AllByRecursion IsNamed vs → Different (numbers_in vs) → Apart (symbols_in vs)
+versions_apart : (vs : List Version) → AllByRecursion IsNamed vs → IsOrdered vs → Apart (symbols_in vs)
 unfolding Apart
-versions_apart [] h differ = tt
-versions_apart (v ∷ vs) h differ = (later_versions v vs h.0 h.1 differ.0, versions_apart vs h.1 differ.1)
+versions_apart [] h ordered = tt
+versions_apart (v ∷ vs) h ordered = (
+  later_versions v vs h.0 h.1 (λ j w at. ordered 0 (suc j) v w (omega arith) refl at),
+  versions_apart vs h.1 (λ i j x y lt at there. ordered (suc i) (suc j) x y (omega (arith, lt)) at there),
+)
 
-no_version : (stub : List ℕ) (vs : List Version) → ((a : List ℕ) (n : ℕ) → is_identifier a ≡ true → n < 2 ^ 64 → stub ≡ symbol_by a (codes ".") n → ⊥)
+no_version : (stub : List ℕ) (vs : List Version) → ((a : List ℕ) (f n : ℕ) (r : Bool) → is_identifier a ≡ true → f < 2 ^ 64 → stub ≡ symbol_of a f n r → ⊥)
     → AllByRecursion IsNamed vs → AllByRecursion (λ symbol. stub ≡ symbol → ⊥) (symbols_in vs)
 no_version stub [] law h = tt
-no_version stub (v ∷ vs) law h = (λ e. law h.0.name v.function h.0.named h.0.small (e ∙ h.0.symbol), no_version stub vs law h.1)
+no_version stub (v ∷ vs) law h = (λ e. law h.0.name v.function v.number h.0.reduced h.0.named h.0.small (e ∙ h.0.symbol), no_version stub vs law h.1)
 
 -- ---- the symbols of arrays
 
@@ -257,7 +266,7 @@ no_arrays : (merged : Merged) (vs : List Version) (ns : List ℕ) → AllByRecur
     → AllByRecursion (λ x. AllByRecursion (λ y. x ≡ y → ⊥) (map (array_symbol merged) ns)) (symbols_in vs)
 no_arrays merged [] ns h g = tt
 no_arrays merged (v ∷ vs) ns h g = (
-  no_array merged v.symbol ns (λ a n named e. kinds_differ h.0.name a v.function n h.0.named named h.0.small (sym h.0.symbol ∙ e)) g,
+  no_array merged v.symbol ns (λ a n named e. kinds_differ h.0.name a v.function v.number n h.0.reduced h.0.named named h.0.small (sym h.0.symbol ∙ e)) g,
   no_arrays merged vs ns h.1 g,
 )
 
@@ -272,9 +281,6 @@ versions_named : (p : Program) (merged : Merged) (plan : Plan) → IsSummarised 
 versions_named p merged plan summarised planned =
     all_named p merged plan plan.versions (omega (arith, summarised.one_each, summarised.few_functions)) (all_bounded p merged plan summarised planned)
 
-versions_differ : (merged : Merged) (plan : Plan) → IsPlanned merged plan → Different (numbers_in plan.versions)
-versions_differ merged plan planned = climbs_differ 0 (numbers_in plan.versions) (climbing (numbers_in plan.versions) planned.ordered)
-
 pub all_differ : (p : Program) (merged : Merged) (plan : Plan) (parts : List RelocObject) → IsSummarised p merged → IsPlanned merged plan → repeats (names_of plan merged parts) ≡ false
 all_differ p merged plan parts summarised planned =
     let kept = plan.arrays in
@@ -286,10 +292,10 @@ all_differ p merged plan parts summarised planned =
     let have = both_all (HasSymbol merged) (stored_arrays merged kept) (zeroed_arrays merged kept)
     (kept_all (HasSymbol merged) (λ (n : ℕ). not (is_zeroed merged n)) kept all) (kept_all (HasSymbol merged) (is_zeroed merged) kept all) in
     let different = parted_different (is_zeroed merged) kept (climbs_differ 0 kept (climbing kept planned.ascending)) in
-    let apart = apart_append versions arrays (versions_apart plan.versions named (versions_differ merged plan planned)) (arrays_apart merged order have different) (no_arrays merged plan.versions order named have) in
-    let putchar = both_all (λ (n : List ℕ). codes "__builtin_putchar" ≡ n → ⊥) versions arrays (no_version (codes "__builtin_putchar") plan.versions putchar_no_function named)
+    let apart = apart_append versions arrays (versions_apart plan.versions named planned.ordered) (arrays_apart merged order have different) (no_arrays merged plan.versions order named have) in
+    let putchar = both_all (λ (n : List ℕ). codes "__builtin_putchar" ≡ n → ⊥) versions arrays (no_version (codes "__builtin_putchar") plan.versions putchar_no_version named)
     (no_array merged (codes "__builtin_putchar") order putchar_no_array have) in
-    let getchar = both_all (λ (n : List ℕ). codes "__builtin_getchar" ≡ n → ⊥) versions arrays (no_version (codes "__builtin_getchar") plan.versions getchar_no_function named)
+    let getchar = both_all (λ (n : List ℕ). codes "__builtin_getchar" ≡ n → ⊥) versions arrays (no_version (codes "__builtin_getchar") plan.versions getchar_no_version named)
     (no_array merged (codes "__builtin_getchar") order getchar_no_array have) in
     ap repeats (names_are merged plan parts)
     ∙ apart_once (codes "__builtin_putchar" ∷ (codes "__builtin_getchar" ∷ (versions ++ arrays))) (stubs_apart versions arrays putchar getchar apart)
@@ -341,7 +347,7 @@ all_once p merged plan summarised planned =
     let fs = functions_of p merged plan in
     let names = map (λ (f : VersionedFunction). f.symbol) fs in
     let same = same_symbols p merged plan in
-    let apart : Apart names = subst Apart same (versions_apart plan.versions (versions_named p merged plan summarised planned) (versions_differ merged plan planned)) in
+    let apart : Apart names = subst Apart same (versions_apart plan.versions (versions_named p merged plan summarised planned) planned.ordered) in
     let once = subst (λ (es : List (List ℕ × Member)). AllByRecursion (λ (n : List ℕ). count_named n es ≡ 1) names) (sym (members_are 0 fs)) (once_in 0 fs apart) in
     let members = members_from 0 (map object_of fs) in
     unmapped (λ (n : List ℕ). count_named n members ≡ 1) plan.versions
@@ -380,31 +386,23 @@ all_framed p merged plan summarised planned =
 one_longer : (at size bound most rest all last : ℕ) → size ≤ bound → bound ≤ most → last ≤ at + size + rest → all ≡ most + rest → last ≤ at + all
 one_longer at size bound most rest all last h g more e = omega (arith, h, g, more, e)
 
-abbrev code_at : Merged → ℕ → ℕ
-code_at merged number = option_map_or (λ g. g.summary.code_bound) (slice_get merged.functions number) 0
-
 end_within : (p : Program) (merged : Merged) (plan : Plan) (at : ℕ) (vs : List Version) → AllByRecursion (Bounded p merged plan) vs
-    → end_of code_size at (map (version_in p merged plan) vs) ≤ at + sum_by (code_at merged) (numbers_in vs)
+    → end_of code_size at (map (version_in p merged plan) vs) ≤ at + sum_by (λ v. v.size) vs
 end_within p merged plan at [] h = omega arith
 end_within p merged plan at (v ∷ vs) h =
     let f = version_in p merged plan v in
-    one_longer at (code_size f) (bound_of f) (code_at merged v.function) (sum_by (code_at merged) (numbers_in vs)) (sum_by (code_at merged) (numbers_in (v ∷ vs)))
+    let size = λ (w : Version). w.size in
+    one_longer at (code_size f) (bound_of f) v.size (sum_by size vs) (sum_by size (v ∷ vs))
     (end_of code_size (at + code_size f) (map (version_in p merged plan) vs))
-    (assembly-short f h.0.slots) h.0.bound (end_within p merged plan (at + code_size f) vs h.1) (sum_by-cons (code_at merged) v.function (numbers_in vs))
+    (assembly-short f h.0.slots) h.0.bound (end_within p merged plan (at + code_size f) vs h.1) (sum_by-cons size v vs)
 
-inside_from : (p : Program) (merged : Merged) (plan : Plan) (vs : List Version) → AllByRecursion (Bounded p merged plan) vs → All (λ n. n < length merged.functions) (numbers_in vs)
-inside_from p merged plan [] h = All-nil (λ n. n < length merged.functions)
-inside_from p merged plan (v ∷ vs) h = All-cons (λ n. n < length merged.functions) v.function (numbers_in vs) h.0.inside (inside_from p merged plan vs h.1)
-
--- the code of the versions is no longer than the bounds of all functions allow
+-- the code of the versions is at most twice as long as the bounds of all functions allow
 pub code_within : (p : Program) (merged : Merged) (plan : Plan) → IsSummarised p merged → IsPlanned merged plan
-    → end_of code_size functions_address (functions_of p merged plan) ≤ functions_address + code_sum merged
+    → end_of code_size functions_address (functions_of p merged plan) ≤ functions_address + 2 * code_sum merged
 code_within p merged plan summarised planned =
-    let all = all_bounded p merged plan summarised planned in
-    let some = some_of_all (λ g. g.summary.code_bound) merged.functions (numbers_in plan.versions) (climbing (numbers_in plan.versions) planned.ordered) (inside_from p merged plan plan.versions all) in
-    omega (arith, end_within p merged plan functions_address plan.versions all, some)
+    omega (arith, end_within p merged plan functions_address plan.versions (all_bounded p merged plan summarised planned), planned.grown)
 
-short_text : (last direct code : ℕ) → last ≡ direct → direct ≤ functions_address + code → code ≤ 2 ^ 25 → last ≤ start_address + 2 ^ 27
+short_text : (last direct code : ℕ) → last ≡ direct → direct ≤ functions_address + 2 * code → code ≤ 2 ^ 25 → last ≤ start_address + 2 ^ 27
 short_text last direct code e h g = omega (arith, e, h, g)
 
 text_short : (p : Program) (merged : Merged) (plan : Plan) → IsSummarised p merged → IsPlanned merged plan → code_sum merged ≤ 2 ^ 25 → AllByRecursion IsObject (map object_of (functions_of p merged plan))

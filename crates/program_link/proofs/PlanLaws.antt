@@ -13,8 +13,7 @@ use Rattle.gimple_ir.specs.declared.plan.Version.{Version}
 use Rattle.gimple_ir.specs.declared.versioned.VersionedFunction.{VersionedFunction}
 use Rattle.gimple_ir.specs.Programs.{IsProgramArray}
 use Rattle.func_summary.specs.Summarised.{IsSummarised}
-use Rattle.func_summary.proofs.Checked.{all_at}
-use Rattle.ipa_plan.specs.Laws.{IsVersionIn, IsPlanned}
+use Rattle.ipa_plan.specs.Rules.{IsPlanned}
 use Rattle.final_link.specs.Placing.{is_first_of}
 use Rattle.program_link.specs.declared.fault.LimitFault.{LimitFault}
 use Rattle.program_link.specs.declared.fault.Quantity.TheVariants.{LinkFunctions, LinkCode, LinkData}
@@ -45,8 +44,7 @@ both_are function main number e f = grind (arith, nat_tests)
 pub main_stands : (p : Program) (merged : Merged) (plan : Plan) → IsSummarised p merged → IsPlanned merged plan → IsSome (find (is_first_of merged.main) plan.versions)
 main_stands p merged plan summarised planned =
     let m = planned.main summarised.exported in
-    let known = all_at (IsVersionIn merged plan) plan.versions planned.versions m.0 m.1 m.2 in
-    version_found plan.versions merged.main m.0 m.1 m.2 (both_are m.1.function merged.main m.1.number m.3 known.number)
+    version_found plan.versions merged.main m.0 m.1 m.2 (both_are m.1.function merged.main m.1.number m.3.0 m.3.1)
 
 -- ---- the arrays
 

@@ -15,6 +15,7 @@ use Rattle.gimple_ir.specs.declared.versioned.VersionedFunction.{VersionedFuncti
 use Rattle.gimple_ir.specs.Names.{repeats}
 use Rattle.func_summary.specs.Summaries.{arrays_of}
 use Rattle.func_summary.specs.Summarised.{module_of}
+use Rattle.ipa_plan.specs.Rules.{Choice}
 use Rattle.rv64_select.specs.Versioned.{IsVersioned}
 use Rattle.final_link.specs.Arrays.{array_size, array_symbol, size_of, is_zeroed}
 use Rattle.final_link.specs.Image.{round_up}
@@ -32,7 +33,7 @@ use Rattle.program_link.proofs.Summing.{climbing, some_of_all}
 
 pub versions_fit : VersionsFit
 versions_fit p merged plan summarised planned =
-    All-from_recursion IsVersioned (functions_of p merged plan) (versions_have p merged plan IsVersioned summarised planned (λ version f known. version_fits p merged plan version f summarised known))
+    All-from_recursion IsVersioned (functions_of p merged plan) (versions_have p merged plan IsVersioned summarised planned (λ version f known. version_fits p merged plan planned.choice version f summarised known))
 
 pub symbols_agree : SymbolsAgree
 symbols_agree p merged plan summarised planned = sym (same_symbols p merged plan)
@@ -56,16 +57,16 @@ symbols_differ p merged plan summarised planned =
 kept_use : (merged : Merged) (plan : Plan) (number : ℕ) → list_any (nat_eq number) plan.arrays ≡ true → IsKeptUse merged plan (array_use merged number)
 kept_use merged plan number kept = (kept, refl)
 
-kept_uses : (p : Program) (merged : Merged) (plan : Plan) (version : Version) (f : Function) → VersionFacts p merged plan version f
+kept_uses : (p : Program) (merged : Merged) (plan : Plan) (choice : Choice) (version : Version) (f : Function) → VersionFacts p merged plan choice version f
     → All (IsKeptUse merged plan) (map (array_use merged) (arrays_of (module_of p) f))
-kept_uses p merged plan version f known =
+kept_uses p merged plan choice version f known =
     All-map (IsKeptUse merged plan) (array_use merged) (arrays_of (module_of p) f)
     (All-weaker (λ (a : ℕ). list_any (nat_eq a) plan.arrays ≡ true) (λ (a : ℕ). IsKeptUse merged plan (array_use merged a)) (kept_use merged plan) (arrays_of (module_of p) f) known.arrays)
 
 pub uses_kept : UsesKept
 uses_kept p merged plan summarised planned =
     let uses = λ (f : VersionedFunction). All (IsKeptUse merged plan) f.arrays in
-    All-from_recursion uses (functions_of p merged plan) (versions_have p merged plan uses summarised planned (kept_uses p merged plan))
+    All-from_recursion uses (functions_of p merged plan) (versions_have p merged plan uses summarised planned (kept_uses p merged plan planned.choice))
 
 -- ---- the sizes
 

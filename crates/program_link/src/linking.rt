@@ -1,7 +1,7 @@
 //! From a program to its image.
 ghost use Rattle.std.specs.Prelude.{◌≡◌, map, All, IfOk, None};
 ghost use Rattle.func_summary.specs.Summarised.{IsSummarised};
-ghost use Rattle.ipa_plan.specs.Laws.{IsPlanned};
+ghost use Rattle.ipa_plan.specs.Rules.{IsPlanned};
 ghost use Rattle.program_link.specs.Known.{IsPart};
 ghost use Rattle.program_link.specs.Versions.{functions_of};
 ghost use Rattle.program_link.specs.Objects.{object_of};

@@ -1,11 +1,10 @@
 //! The member that a version becomes: its function's body, with the symbols of what it names.
 ghost use Rattle.std.specs.Prelude.{◌≡◌, ◌<◌, length, map, All, IfOk};
 ghost use Rattle.func_summary.specs.Summarised.{IsSummarised};
-ghost use Rattle.ipa_plan.specs.Laws.{IsPlanned, IsVersionIn};
 ghost use Rattle.ipa_transform.specs.Versioned.{versioned_of};
 ghost use Rattle.ipa_transform.specs.Members.{IsMember};
 ghost use Rattle.rv64_select.specs.Versioned.{IsVersioned};
-ghost use Rattle.program_link.specs.Known.{array_symbols};
+ghost use Rattle.program_link.specs.Known.{array_symbols, IsSomeVersion};
 ghost use Rattle.program_link.specs.Versions.{array_use, call_use, function_at, member_of};
 
 use crate::copies;
@@ -71,7 +70,7 @@ pub fn member(
     version: &Version,
 ) -> Result<Member, NoMemory>
     requires summarised { IsSummarised program.now merged.now }
-    requires version { IsVersionIn merged.now plan.now version.now }
+    requires version { IsSomeVersion merged.now plan.now version.now }
     requires symbols { symbols.now ≡ array_symbols merged.now }
     ensures value { IfOk result (λ member. member ≡ member_of program.now merged.now plan.now version.now (function_at program.now version.now.function)) }
     ensures member { IfOk result IsMember }

@@ -3,7 +3,7 @@ use Rattle.std.specs.Prelude.{All}
 use Rattle.std.proofs.lemmas.List.{take_all}
 use Rattle.std.proofs.lemmas.List.Elements.{All-push}
 use Rattle.gimple_ir.specs.declared.plan.Version.{Version}
-use Rattle.ipa_plan.specs.Laws.{IsVersionIn}
+use Rattle.ipa_plan.specs.Rules.{IsVersionIn}
 use Rattle.ipa_transform.specs.Versioned.{versioned_of}
 use Rattle.program_link.specs.Known.{IsPart}
 use Rattle.program_link.specs.Versions.{version_in}
@@ -23,7 +23,8 @@ member-requires-clause-version c =
     let same = c.as_slice-version-items.ensures in
     let inside : i < length plan.versions = omega (arith, c.loop-version-test.true, ap length same) in
     let is = c.version-item.is ∙ ap (λ xs. get_or xs i item) same in
-    subst (IsVersionIn c.args.merged.now plan) (sym is) (c.requires.planned.versions i item inside)
+    let choice = c.requires.planned.choice in
+    (choice, subst (IsVersionIn c.args.merged.now plan choice) (sym is) (c.requires.planned.versions i item inside))
 
 pub loop-version-preserved : goal.loop-version-preserved
 loop-version-preserved c =

@@ -57,12 +57,12 @@ use Rattle.lowering_laws.proofs.Frames.{CellsAlike, reads_alike, VersionFrames}
 
 -- the arguments of a call, by what the caller's frame has: those of needed components are alive, and constants have their values
 pub record Given (choice : Choice) (v target : Version) (c : Function) (xs : List (Option Value)) (ops : List Operand) : Type 0 where
-  count : length ops ≡ parameter_components c
-  alive : (i : ℕ) → choice.needed target.function i ≡ true → (o : Operand) → slice_get ops i ≡ Some o → AliveOperand v o
-  constant : (i : ℕ) (x : Value) → lattice_at target.vector i ≡ Const x → (o : Operand) → slice_get ops i ≡ Some o → (u : Value) → value_at xs o ≡ Some u → u ≡ x
+  pub count : length ops ≡ parameter_components c
+  pub alive : (i : ℕ) → choice.needed target.function i ≡ true → (o : Operand) → slice_get ops i ≡ Some o → AliveOperand v o
+  pub constant : (i : ℕ) (x : Value) → lattice_at target.vector i ≡ Const x → (o : Operand) → slice_get ops i ≡ Some o → (u : Value) → value_at xs o ≡ Some u → u ≡ x
 
 -- of a function, whose parameter components have what they are passed
-abbrev begins_with : Function → List (Option Value) → List (Option Value)
+abbrev pub begins_with : Function → List (Option Value) → List (Option Value)
 begins_with c given = taken 0 (parameter_components c) given ++ replicate (components_in c.variables - parameter_components c) None
 
 record Passed (c : Function) (xs : List (Option Value)) (ops : List Operand) (i : ℕ) (u : Value) : Type 0 where
@@ -91,7 +91,7 @@ vector_holds choice v target c xs ops given = λ i x u known is.
     let one = passed_in c xs ops i u is in
     given.constant i x known one.operand one.at u one.value
 
-abbrev version_begins : Version → (count : ℕ) → List (Option Value) → List (Option Value)
+abbrev pub version_begins : Version → (count : ℕ) → List (Option Value) → List (Option Value)
 version_begins target count given = bound target.bindings given ++ replicate (count - length target.bindings) None
 
 pub new_cells : (p : Program) (merged : Merged) (plan : Plan) (choice : Choice) (v target : Version) (f c : Function) (entry xs ys : List (Option Value)) (ops : List Operand) → VersionFacts p merged plan choice target c
@@ -193,7 +193,7 @@ given_by p merged plan summarised planned v target f c n i g to args facts k is 
         jump_is (Literal y) = refl
 
 -- what the version at a place begins with
-version_enters : (p : Program) (merged : Merged) (plan : Plan) (choice : Choice) (place : ℕ) (target : Version) (c : Function) (given : List (Option Value)) → slice_get plan.versions place ≡ Some target → VersionFacts p merged plan choice target c
+pub version_enters : (p : Program) (merged : Merged) (plan : Plan) (choice : Choice) (place : ℕ) (target : Version) (c : Function) (given : List (Option Value)) → slice_get plan.versions place ≡ Some target → VersionFacts p merged plan choice target c
     → (linked_system (linked p merged plan)).enters place given ≡ Some (version_begins target (components_in c.variables) given)
 version_enters p merged plan choice place target c given at k =
     let found = mapped_at (linked_code (linked p merged plan)) (map (version_in p merged plan) plan.versions) place (version_in p merged plan target) (mapped_at (version_in p merged plan) plan.versions place target at) in

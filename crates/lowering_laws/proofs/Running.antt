@@ -1,135 +1,158 @@
--- The run of the versions of a plan stands as that of the whole program does, step by step.
-use Rattle.std.proofs.Common.{◌≡◌, ℕ, List, [], ◌∷◌, length, map, Some, None, refl, sym, ap, ◌∙◌, subst}
-use Rattle.std.specs.Prelude.{Option, slice_get, option_map, unwrap_or}
-use Rattle.std.specs.Option.{option_map_or}
-use Rattle.std.proofs.lemmas.Option.{slice_get-map}
+-- The run of the versions of a plan keeps that of the whole program, step by step.
+use Rattle.std.proofs.Common.{◌≡◌, ℕ, List, [], ◌∷◌, map, take, Bool, true, Some, None, refl, sym, ap, ◌∙◌, subst}
+use Rattle.std.specs.Prelude.{Option, IsSomeAnd, slice_get, option_map, unwrap_or}
+use Rattle.std.proofs.lemmas.Option.{none-some}
+use Rattle.gimple_ir.specs.CodeBound.{components_in, parameter_components}
+use Rattle.gimple_ir.specs.declared.types.ScalarType.TheVariants.{Int}
+use Rattle.gimple_ir.specs.declared.types.ResultType.TheVariants as returned
+use Rattle.gimple_ir.specs.declared.types.Operand.{Operand}
 use Rattle.gimple_ir.specs.declared.types.Value.{Value}
 use Rattle.gimple_ir.specs.declared.types.Array.{Array}
 use Rattle.gimple_ir.specs.declared.types.Function.{Function}
 use Rattle.gimple_ir.specs.declared.types.Program.{Program}
+use Rattle.gimple_ir.specs.declared.types.Statement.{Statement}
+use Rattle.gimple_ir.specs.declared.versioned.Step.{Step}
 use Rattle.gimple_ir.specs.declared.plan.Version.{Version}
 use Rattle.gimple_ir.specs.declared.plan.Plan.{Plan}
 use Rattle.gimple_ir.specs.declared.merged.Merged.{Merged}
-use Rattle.gimple_ir.specs.declared.versioned.VersionedFunction.{VersionedFunction}
-use Rattle.gimple_meaning.specs.Acts.{Store}
-use Rattle.gimple_meaning.specs.Systems.{Machine, fresh, first_arrays}
-use Rattle.gimple_meaning.specs.Source as source
-use Rattle.gimple_meaning.specs.Source.{effect_at, begun, source_of, start}
-use Rattle.gimple_meaning.specs.Steps as steps
-use Rattle.gimple_meaning.specs.Steps.{Code, act_at, opened_by}
-use Rattle.gimple_meaning.specs.Run.{src}
+use Rattle.gimple_ir.specs.declared.merged.MergedFunction.{MergedFunction}
+use Rattle.gimple_meaning.specs.Acts.{Store, Act, value_at}
+use Rattle.gimple_meaning.specs.Systems.{fresh, status, first_arrays}
+use Rattle.gimple_meaning.specs.Source.{begun, effect_in, effect_at, source_of, start}
+use Rattle.gimple_meaning.specs.Steps.{Code, act_in, act_at}
+use Rattle.gimple_meaning.specs.LockStep.{States, ActAlike}
+use Rattle.gimple_meaning.proofs.KeepingLaws.{tied_keeps}
 use Rattle.func_summary.specs.Summarised.{IsSummarised}
-use Rattle.ipa_plan.specs.Laws.{IsPlanned}
-use Rattle.program_link.specs.Versions.{version_in}
-use Rattle.machine_laws.specs.Linked.{linked_code, linked_codes, linked_system}
-use Rattle.lowering_laws.specs.States.{function_of_version, SameState}
-use Rattle.lowering_laws.specs.Linked.{linked, linked_start, linked_run}
-use Rattle.lowering_laws.proofs.Together.{SameAct, Alike, runs_alike}
-use Rattle.lowering_laws.proofs.Lists.{past_end, mapped_at}
+use Rattle.ipa_plan.specs.Rules.{Choice, kept_from, IsPlanned}
+use Rattle.ipa_transform.specs.Versioned.{picked}
 use Rattle.program_link.proofs.VersionFacts.{VersionFacts}
-use Rattle.lowering_laws.proofs.Standing.{standing, version_same}
-use Rattle.lowering_laws.proofs.Named.{function_there, main_same, same_arrays}
+use Rattle.machine_laws.specs.Linked.{linked_codes, linked_system}
+use Rattle.lowering_laws.specs.States.{versions_view}
+use Rattle.lowering_laws.specs.Linked.{linked, linked_start}
+use Rattle.lowering_laws.specs.Laws.{VersionsLaw}
+use Rattle.lowering_laws.proofs.Standing.{standing}
+use Rattle.lowering_laws.proofs.Named.{begins_at, same_arrays}
+use Rattle.lowering_laws.proofs.Bodies.{calls_before}
 use Rattle.lowering_laws.proofs.Uses.{code_at, known}
-use Rattle.lowering_laws.proofs.Acting.{same_by, function_acts, function_receives, function_opens}
+use Rattle.lowering_laws.proofs.Reading.{reads_alive}
+use Rattle.lowering_laws.proofs.Frames.{CellsAlike, VersionFrames, GivenBy, versions_tie, frame_kept}
+use Rattle.lowering_laws.proofs.Entering.{Given, begins_with, vector_holds, version_begins, new_cells, version_enters}
+use Rattle.lowering_laws.proofs.Acting.{ActsAlike, now, lowered, function_found, code_found, step_found, acts_alike}
 
--- ---- what stands at a place of the versions
+-- ---- all statements
 
--- nothing, and no function
-none_at : (p : Program) (merged : Merged) (plan : Plan) (g : ℕ) → slice_get plan.versions g ≡ None
-    → (slice_get p.functions (function_of_version p plan g) ≡ None) × (slice_get (linked_codes (linked p merged plan)).functions g ≡ None)
-none_at p merged plan g at = (
-  ap (λ o. slice_get p.functions (option_map_or (λ (v : Version). v.function) o (length p.functions))) at ∙ past_end p.functions,
-  slice_get-map (linked_code (linked p merged plan)) (map (version_in p merged plan) plan.versions) g
-      ∙ ap (option_map (linked_code (linked p merged plan))) (slice_get-map (version_in p merged plan) plan.versions g ∙ ap (option_map (version_in p merged plan)) at),
-)
-
--- a version, and its function
-some_at : (p : Program) (merged : Merged) (plan : Plan) (g : ℕ) (v : Version) (f : Function) → slice_get plan.versions g ≡ Some v → VersionFacts p merged plan v f
-    → (slice_get p.functions (function_of_version p plan g) ≡ Some f) × (slice_get (linked_codes (linked p merged plan)).functions g ≡ Some (code_at p merged plan v f))
-some_at p merged plan g v f at k = (
-  ap (slice_get p.functions) (function_there p plan g v at) ∙ k.here,
-  mapped_at (linked_code (linked p merged plan)) (map (version_in p merged plan) plan.versions) g (version_in p merged plan v) (mapped_at (version_in p merged plan) plan.versions g v at)
-      ∙ ap (λ (w : VersionedFunction). Some (linked_code (linked p merged plan) w)) (version_same p merged plan v f k),
-)
-
--- ---- the systems
-
-acts : (p : Program) (merged : Merged) (plan : Plan) → IsSummarised p merged → IsPlanned merged plan → (g place : ℕ) (s : Store)
-    → SameAct p plan ((source_of p).acts (function_of_version p plan g) place s) ((linked_system (linked p merged plan)).acts g place s)
-acts p merged plan summarised planned g place s =
-    subst (λ (arrays : List Array). SameAct p plan (effect_at p.arrays (slice_get p.functions (function_of_version p plan g)) place s) (act_at arrays (slice_get (linked_codes (linked p merged plan)).functions g) place s))
-    (sym (same_arrays p merged plan summarised)) (by (slice_get plan.versions g) refl)
+alike : (p : Program) (merged : Merged) (plan : Plan) → IsSummarised p merged → (planned : IsPlanned merged plan)
+    → ActAlike (source_of p) (linked_system (linked p merged plan)) (versions_tie p merged plan planned.choice)
+alike p merged plan summarised planned q r k arrays input =
+    subst (λ (o : Option Function). ActsAlike p merged plan planned.choice q r (effect_at p.arrays o q.place before) (act_at (linked p merged plan).arrays (slice_get (linked_codes (linked p merged plan)).functions r.function) r.place after))
+    (sym (function_found p merged plan planned.choice q r k))
+    (subst (λ (o : Option Code). ActsAlike p merged plan planned.choice q r first (act_at (linked p merged plan).arrays o r.place after)) (sym (code_found p merged plan planned.choice q r k))
+    (subst (λ (items : List Array). ActsAlike p merged plan planned.choice q r first (act_in items code r.place after (slice_get code.body r.place))) (sym (same_arrays p merged plan summarised))
+    (subst (λ (o : Option Step). ActsAlike p merged plan planned.choice q r first (act_in p.arrays code r.place after o)) (sym (step_found p merged plan planned.choice q r k))
+    (by (slice_get k.function.body q.place) refl))))
   where
-    by : (o : Option Version) → slice_get plan.versions g ≡ o
-        → SameAct p plan (effect_at p.arrays (slice_get p.functions (function_of_version p plan g)) place s) (act_at p.arrays (slice_get (linked_codes (linked p merged plan)).functions g) place s)
-    by None at =
-        let r = none_at p merged plan g at in
-        same_by p plan _ (effect_at p.arrays None place s) _ (act_at p.arrays None place s)
-        (ap (λ o. effect_at p.arrays o place s) r.0) (ap (λ o. act_at p.arrays o place s) r.1) tt
-    by (Some v) at =
-        let k = standing p merged plan summarised planned g v at in
-        let r = some_at p merged plan g v k.0 at k.1 in
-        same_by p plan _ (effect_at p.arrays (Some k.0) place s) _ (act_at p.arrays (Some (code_at p merged plan v k.0)) place s)
-        (ap (λ o. effect_at p.arrays o place s) r.0) (ap (λ o. act_at p.arrays o place s) r.1)
-        (function_acts p merged plan v k.0 p.arrays place s (known p merged plan summarised planned v k.0 k.1))
+    before : Store
+    before = now q.components arrays input
 
-enters : (p : Program) (merged : Merged) (plan : Plan) → IsSummarised p merged → IsPlanned merged plan → (g : ℕ) (args : List (Option Value))
-    → (linked_system (linked p merged plan)).enters g args ≡ (source_of p).enters (function_of_version p plan g) args
-enters p merged plan summarised planned g args = by (slice_get plan.versions g) refl
-  where
-    by : (o : Option Version) → slice_get plan.versions g ≡ o
-        → opened_by (slice_get (linked_codes (linked p merged plan)).functions g) args ≡ begun (slice_get p.functions (function_of_version p plan g)) args
-    by None at =
-        let r = none_at p merged plan g at in
-        ap (λ o. opened_by o args) r.1 ∙ ap (λ o. begun o args) (sym r.0)
-    by (Some v) at =
-        let k = standing p merged plan summarised planned g v at in
-        let r = some_at p merged plan g v k.0 at k.1 in
-        ap (λ o. opened_by o args) r.1 ∙ function_opens p merged plan v k.0 args ∙ ap (λ o. begun o args) (sym r.0)
+    after : Store
+    after = now r.components arrays input
 
-receives : (p : Program) (merged : Merged) (plan : Plan) → IsSummarised p merged → IsPlanned merged plan → (g place : ℕ)
-    → (linked_system (linked p merged plan)).receives g place ≡ (source_of p).receives (function_of_version p plan g) place
-receives p merged plan summarised planned g place = by (slice_get plan.versions g) refl
-  where
-    by : (o : Option Version) → slice_get plan.versions g ≡ o
-        → steps.target_at (slice_get (linked_codes (linked p merged plan)).functions g) place ≡ source.target_at (slice_get p.functions (function_of_version p plan g)) place
-    by None at =
-        let r = none_at p merged plan g at in
-        ap (λ o. steps.target_at o place) r.1 ∙ ap (λ o. source.target_at o place) (sym r.0)
-    by (Some v) at =
-        let k = standing p merged plan summarised planned g v at in
-        let r = some_at p merged plan g v k.0 at k.1 in
-        ap (λ o. steps.target_at o place) r.1 ∙ function_receives p merged plan v k.0 place ∙ ap (λ o. source.target_at o place) (sym r.0)
+    code : Code
+    code = code_at p merged plan k.version k.function
 
-alike : (p : Program) (merged : Merged) (plan : Plan) → IsSummarised p merged → IsPlanned merged plan → Alike p plan (source_of p) (linked_system (linked p merged plan))
-alike p merged plan summarised planned = record {
-  acts = acts p merged plan summarised planned;
-  enters = enters p merged plan summarised planned;
-  receives = receives p merged plan summarised planned;
+    first : Act
+    first = effect_in p.arrays k.function q.place before (slice_get k.function.body q.place)
+
+    by : (o : Option Statement) → slice_get k.function.body q.place ≡ o
+        → ActsAlike p merged plan planned.choice q r (effect_in p.arrays k.function q.place before o)
+        (act_in p.arrays code r.place after (option_map (lowered p merged plan k.version k.function (calls_before 0 k.function.body q.place)) o))
+    by None here = tt
+    by (Some s) here =
+        acts_alike p merged plan summarised planned q r k arrays input (calls_before 0 k.function.body q.place) s here
+        (known p merged plan summarised planned k.version k.function k.facts q.place s here) (reads_alive p merged plan planned.choice k.version k.function k.facts q.place s here)
+
+-- ---- the first frames
+
+nothing_picked : (places : List ℕ) → picked {A = Operand} [] places ≡ []
+nothing_picked [] = refl
+nothing_picked (k ∷ places) = nothing_picked places
+
+-- `main`, in its first version: it is passed nothing
+record First (p : Program) (merged : Merged) (plan : Plan) (choice : Choice) : Type 0 where
+  version : Version
+  at : slice_get plan.versions (linked p merged plan).main ≡ Some version
+  function : Function
+  facts : VersionFacts p merged plan choice version function
+  is : version.function ≡ p.main
+  none : parameter_components function ≡ 0
+  result : version.result ≡ true
+
+first_version : (p : Program) (merged : Merged) (plan : Plan) → IsSummarised p merged → (planned : IsPlanned merged plan) → First p merged plan planned.choice
+first_version p merged plan summarised planned =
+    let begins = begins_at p merged plan summarised planned in
+    let v = begins.version in
+    let k = standing p merged plan summarised planned (linked p merged plan).main v begins.at in
+    let here : slice_get p.functions p.main ≡ Some k.0 = ap (slice_get p.functions) (sym begins.is) ∙ k.1.here in
+    let main = subst (λ (o : Option Function). IsSomeAnd o (λ f. (f.parameters ≡ 0) × (f.result ≡ returned.Scalar Int))) here summarised.program.main in
+    let there : slice_get merged.functions merged.main ≡ Some k.1.known.function = ap (slice_get merged.functions) (summarised.main ∙ sym begins.is) ∙ k.1.known.there in
+    let exported = subst (λ (o : Option MergedFunction). IsSomeAnd o (λ g. g.exported ≡ true)) there summarised.exported in
+    record {
+      version = v;
+      at = begins.at;
+      function = k.0;
+      facts = k.1;
+      is = begins.is;
+      none = ap (λ (n : ℕ). components_in (take n k.0.variables)) main.0;
+      result = k.1.known.result ∙ (k.1.known.root exported).result;
+    }
+
+nothing_given : (choice : Choice) (v : Version) (c : Function) → parameter_components c ≡ 0 → Given choice v v c [] []
+nothing_given choice v c none = record {
+  count = sym none;
+  alive = λ i needed o here. absurd (none-some o here);
+  constant = λ i x known o here u value. absurd (none-some o here);
 }
+
+first_frames : (p : Program) (merged : Merged) (plan : Plan) (choice : Choice) (k : First p merged plan choice)
+    → VersionFrames p merged plan choice (fresh p.main (begins_with k.function [])) (fresh (linked p merged plan).main (version_begins k.version (components_in k.function.variables) []))
+first_frames p merged plan choice k = record {
+  version = k.version;
+  at = k.at;
+  function = k.function;
+  facts = k.facts;
+  is = k.is;
+  place = refl;
+  entry = begins_with k.function [];
+  holds = vector_holds choice k.version k.version k.function [] [] (nothing_given choice k.version k.function k.none);
+  cells =
+      subst (λ (ops : List Operand). CellsAlike k.version k.function (begins_with k.function []) (begins_with k.function []) (version_begins k.version (components_in k.function.variables) (map (value_at []) ops)))
+      (nothing_picked (kept_from 0 k.version.bindings))
+      (new_cells p merged plan choice k.version k.version k.function k.function [] [] [] [] k.facts
+      (record { size = refl; agree = λ i x alive is. is; knows = λ i x is. absurd (none-some x is) }) (nothing_given choice k.version k.function k.none));
+}
+
+starts : (p : Program) (merged : Merged) (plan : Plan) → IsSummarised p merged → (planned : IsPlanned merged plan) → (input : List ℕ)
+    → States (source_of p) (linked_system (linked p merged plan)) (versions_tie p merged plan planned.choice) (start p input) (linked_start (linked p merged plan) input)
+starts p merged plan summarised planned input =
+    let k = first_version p merged plan summarised planned in
+    let begins = version_enters p merged plan planned.choice (linked p merged plan).main k.version k.function [] k.at k.facts in
+    let here : slice_get p.functions p.main ≡ Some k.function = ap (slice_get p.functions) (sym k.is) ∙ k.facts.here in
+    let second = version_begins k.version (components_in k.function.variables) [] in
+    record {
+      arrays = ap first_arrays (sym (same_arrays p merged plan summarised));
+      input = refl;
+      output = refl;
+      frames = (
+        subst (λ (o : Option Function). VersionFrames p merged plan planned.choice (fresh p.main (unwrap_or (begun o []) [])) (fresh (linked p merged plan).main (unwrap_or ((linked_system (linked p merged plan)).enters (linked p merged plan).main []) []))) (sym here)
+            (subst (λ (o : Option (List (Option Value))). VersionFrames p merged plan planned.choice (fresh p.main (begins_with k.function [])) (fresh (linked p merged plan).main (unwrap_or o []))) (sym begins)
+            (first_frames p merged plan planned.choice k)),
+        λ x y given. ap status (subst (λ (b : Bool). GivenBy b x y) k.result (given k.version k.at)),
+      );
+    }
 
 -- ---- runs
 
-abbrev begun_with : List ℕ → List Array → ℕ → Option (List (Option Value)) → Machine
-begun_with input arrays main cells = record { arrays = first_arrays arrays; frames = fresh main (unwrap_or cells []) ∷ []; input = input; output = [] }
-
-starts : (p : Program) (merged : Merged) (plan : Plan) → IsSummarised p merged → IsPlanned merged plan → (input : List ℕ)
-    → SameState p plan (start p input) (linked_start (linked p merged plan) input)
-starts p merged plan summarised planned input =
-    let a = source_of p in
-    let b = linked_system (linked p merged plan) in
-    let arrays = (linked p merged plan).arrays in
-    let main = (linked p merged plan).main in
-    let first = function_of_version p plan main in (
-      begun_with input arrays main (b.enters main []),
-      refl,
-      ap (λ (xs : List Array). begun_with input xs p.main (a.enters p.main [])) (sym (same_arrays p merged plan summarised))
-          ∙ ap (λ (g : ℕ). begun_with input arrays g (a.enters g [])) (sym (main_same p merged plan summarised planned))
-          ∙ ap (λ (cells : Option (List (Option Value))). begun_with input arrays first cells) (sym (enters p merged plan summarised planned main [])),
-    )
-
-pub runs_same : (p : Program) (merged : Merged) (plan : Plan) → IsSummarised p merged → IsPlanned merged plan → (input : List ℕ) (n : ℕ)
-    → SameState p plan (src p input n) (linked_run (linked p merged plan) input n)
-runs_same p merged plan summarised planned input n =
-    runs_alike p plan (source_of p) (linked_system (linked p merged plan)) (alike p merged plan summarised planned) (start p input) (linked_start (linked p merged plan) input)
-    (starts p merged plan summarised planned input) n
+pub versions_keep : VersionsLaw
+versions_keep p merged plan summarised planned input =
+    tied_keeps (source_of p) (linked_system (linked p merged plan)) (versions_tie p merged plan planned.choice) (versions_view p plan) (alike p merged plan summarised planned)
+    (frame_kept p merged plan planned.choice) (start p input) (linked_start (linked p merged plan) input) (starts p merged plan summarised planned input)

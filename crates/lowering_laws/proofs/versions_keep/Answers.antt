@@ -1,4 +1,5 @@
+use Rattle.lowering_laws.proofs.Running.{versions_keep}
 use Rattle.lowering_laws.proofs.versions_keep.Goals as goal
 
 pub returns : goal.returns
-returns c = ?
+returns c = versions_keep

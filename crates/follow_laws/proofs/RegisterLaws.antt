@@ -20,7 +20,8 @@ use Rattle.rv64_select.specs.declared.item.Item.{Item}
 use Rattle.rv64_select.specs.declared.item.Item.TheVariants as item
 use Rattle.rv64_select.specs.Templates.{constant, load_slot, store_slot, machine_form}
 use Rattle.rv64_select.specs.Operations.{branch, operation, unary_operation, conversion, scaling}
-use Rattle.rv64_select.specs.Assembly.{plain, operand_in, set_in, assign_in, type_of, type_of_component, element_of, enter_code, leave_code, binding_items, bindings_items, case_items, pair_items, argument_items, address_items, step_items, assembly_of}
+use Rattle.gimple_meaning.specs.Versioned.{type_of, type_of_component, element_of}
+use Rattle.rv64_select.specs.Assembly.{plain, operand_in, set_in, assign_in, enter_code, leave_code, binding_items, bindings_items, case_items, pair_items, argument_items, address_items, step_items, assembly_of}
 
 abbrev pub HasRegisters : Item → Type 0
 HasRegisters (item.Upper rd s) = IsRegister rd

@@ -7,8 +7,7 @@ use Rattle.gimple_ir.specs.declared.types.Operand.TheVariants.{Component, Litera
 use Rattle.gimple_ir.specs.Statements.{is_literal}
 use Rattle.gimple_ir.specs.declared.versioned.Step.TheVariants.{Putchar, Return}
 use Rattle.gimple_ir.specs.declared.versioned.VersionedFunction.{VersionedFunction}
-use Rattle.rv64_frame.specs.Frames.{outgoing_of}
-use Rattle.rv64_select.specs.Versioned.{operands_in, OperandFits, StepFits, IsVersioned}
+use Rattle.gimple_meaning.specs.Versioned.{most_passed, operands_in, OperandFits, StepFits, IsVersioned}
 
 literal_fits : (f : VersionedFunction) (o : Operand) → is_literal o ≡ true → OperandFits f o
 literal_fits f (Component x) e = cc
@@ -22,10 +21,8 @@ is_versioned f a b c is_a is_b is_c types bindings body =
     let last = Return (Some c) in
     let sum = ap (sum_by (λ s. 7 + 11 * operands_in s)) body in
     record {
-      slots = record {
-        components = omega (arith, ap (λ ts. length ts) types);
-        arguments = subst (λ ss. outgoing_of ss ≤ 64) (sym body) (omega arith);
-      };
+      components = omega (arith, ap (λ ts. length ts) types);
+      arguments = subst (λ ss. most_passed ss ≤ 64) (sym body) (omega arith);
       steps = subst (All (StepFits f)) (sym body)
           (All-cons (StepFits f) first (second ∷ (last ∷ [])) (literal_fits f a is_a)
           (All-cons (StepFits f) second (last ∷ []) (literal_fits f b is_b) (All-cons (StepFits f) last [] (literal_fits f c is_c) (All-nil (StepFits f)))));

@@ -1,7 +1,7 @@
 //! Rows of words and of the code of a whole function.
 ghost use Rattle.std.specs.Prelude.{◌≡◌, true, IfOk};
 ghost use Rattle.gimple_ir.specs.Statements.{is_literal};
-ghost use Rattle.rv64_select.specs.Versioned.{IsVersioned};
+ghost use Rattle.gimple_meaning.specs.Versioned.{IsVersioned};
 
 use crate::parts::{copied, hexadecimal};
 use anyhow::{Result, anyhow};

@@ -2,6 +2,9 @@ pub mod Acts
 pub mod Systems
 pub mod Source
 pub mod Steps
+pub mod Versioned
+pub mod Linked
+pub mod Typed
 pub mod Run
 pub mod Laws
 pub mod LockStep

@@ -17,7 +17,8 @@ use Rattle.rv64_select.specs.declared.item.Item.TheVariants as item
 use Rattle.rv64_select.specs.Operations.{element_load, element_store}
 use Rattle.rv64_select.specs.Assembly.{assembly_of}
 use Rattle.rv64_select.specs.Code.{Places, words_of, words_in, laid, is_label, label_from, label_offset, resolved, places_of, code_of}
-use Rattle.rv64_select.specs.Versioned.{IsVersioned}
+use Rattle.gimple_meaning.specs.Versioned.{IsVersioned}
+use Rattle.rv64_select.proofs.FewSlots.{few_slots}
 use Rattle.rv64_select.proofs.Laying.{words-cons, length-direct}
 use Rattle.rv64_select.proofs.Bounds.{assembly-short}
 use Rattle.rv64_select.proofs.Encodes.{distance_fits, lo_fits, upper_fits}
@@ -92,7 +93,7 @@ module _ (f : VersionedFunction) (addresses : List ℕ → ℕ) (base : ℕ) whe
 
   pub code_encodes : IsVersioned f → AllInRange (code_of addresses f base)
   code_encodes v =
-      let short = assembly-short f v.slots in
+      let short = assembly-short f (few_slots f v) in
       let small : 4 * words_in (assembly_of f) ≤ 2 ^ 19 = omega (arith, short, v.bound) in
       let zero_place : IsPlace 0 = (omega arith, refl) in
       let here : base + 0 ≡ base = omega arith in
@@ -147,7 +148,7 @@ larger : (a b : ℕ) → IsFrame a → IsFrame b → IsFrame (max a b)
 larger a b h k = (omega (arith, h.0, k.0), omega (arith, h.1, k.1))
 
 frame_fits : (f : VersionedFunction) → IsVersioned f → IsFrame (frame_size f)
-frame_fits f v = (omega (arith, v.slots.components, v.slots.arguments), omega arith)
+frame_fits f v = (omega (arith, (few_slots f v).components, (few_slots f v).arguments), omega arith)
 
 frames_from : (least : ℕ) (fs : List VersionedFunction) → IsFrame least → All IsVersioned fs → IsFrame (fold (λ largest f. max largest (frame_size f)) least fs)
 frames_from least [] h k = h

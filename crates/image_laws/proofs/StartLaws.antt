@@ -42,8 +42,8 @@ use Rattle.follow_laws.specs.Frames.{form_of}
 use Rattle.follow_laws.specs.Relation.{StandsAt, ComesTo}
 use Rattle.follow_laws.proofs.StubLaws.{start_calls}
 use Rattle.follow_laws.proofs.WayLaws.{leads_twice}
-use Rattle.machine_laws.specs.Linked.{LinkedProgram, linked_code, linked_system}
-use Rattle.machine_laws.specs.Typed.{ProgramTyped}
+use Rattle.gimple_meaning.specs.Linked.{LinkedProgram, linked_code, linked_system}
+use Rattle.gimple_meaning.specs.Typed.{ProgramTyped}
 use Rattle.machine_laws.specs.Layouts.{Layout, first_return}
 use Rattle.machine_laws.specs.Relation.{ElementHeld, ArraysHeld, AtFrame, Related}
 use Rattle.machine_laws.specs.Starts.{AtStart}

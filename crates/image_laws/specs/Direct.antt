@@ -13,7 +13,7 @@ use Rattle.gimple_ir.specs.declared.unit.ArrayUse.{ArrayUse}
 use Rattle.gimple_ir.specs.declared.versioned.VersionedFunction.{VersionedFunction}
 use Rattle.rv64_isa.specs.declared.instr.Instr.{Instr}
 use Rattle.rv64_meaning.specs.Loading.{segments_of, load_fault_of}
-use Rattle.rv64_select.specs.Versioned.{IsVersioned}
+use Rattle.gimple_meaning.specs.Versioned.{IsVersioned}
 use Rattle.rv64_select.specs.Code.{code_of}
 use Rattle.final_link.specs.Stubs.{start_address, functions_address}
 use Rattle.final_link.specs.Names.{value_of}

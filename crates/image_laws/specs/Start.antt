@@ -10,8 +10,8 @@ use Rattle.rv64_meaning.specs.Loading.{segments_of, start_of}
 use Rattle.follow_laws.specs.Follows.{AreBytes}
 use Rattle.follow_laws.specs.Direct.{direct_image}
 use Rattle.follow_laws.specs.Relation.{ComesTo}
-use Rattle.machine_laws.specs.Linked.{LinkedProgram, linked_system}
-use Rattle.machine_laws.specs.Typed.{ProgramTyped}
+use Rattle.gimple_meaning.specs.Linked.{LinkedProgram, linked_system}
+use Rattle.gimple_meaning.specs.Typed.{ProgramTyped}
 use Rattle.machine_laws.specs.Relation.{ArraysHeld, Related}
 use Rattle.machine_laws.specs.Starts.{AtStart}
 use Rattle.machine_laws.specs.Plans.{linked_of}

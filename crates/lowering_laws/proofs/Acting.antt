@@ -38,7 +38,7 @@ use Rattle.func_summary.specs.Summarised.{IsSummarised}
 use Rattle.ipa_plan.specs.Rules.{Choice, kept_from, IsPlanned}
 use Rattle.ipa_transform.specs.Versioned.{step_of, steps_of, picked, kept_of, operands_of}
 use Rattle.program_link.specs.Versions.{member_of, version_in}
-use Rattle.machine_laws.specs.Linked.{linked_step, linked_code, linked_codes, linked_system}
+use Rattle.gimple_meaning.specs.Linked.{linked_step, linked_code, linked_codes, linked_system}
 use Rattle.lowering_laws.specs.Linked.{linked}
 use Rattle.lowering_laws.proofs.Lists.{mapped_at}
 use Rattle.lowering_laws.proofs.Members.{In}

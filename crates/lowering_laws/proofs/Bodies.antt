@@ -35,7 +35,7 @@ use Rattle.ipa_transform.specs.Versioned.{first_component, field_count, operands
 use Rattle.func_summary.proofs.Checked.{place_inside}
 use Rattle.ipa_plan.specs.Rules.{Choice, kept_from, IsCallOf}
 use Rattle.program_link.specs.Versions.{call_use}
-use Rattle.machine_laws.specs.Linked.{LinkedProgram, linked_step}
+use Rattle.gimple_meaning.specs.Linked.{LinkedProgram, linked_step}
 use Rattle.lowering_laws.proofs.Lists.{there, mapped_at}
 use Rattle.program_link.proofs.VersionFacts.{VersionFacts}
 

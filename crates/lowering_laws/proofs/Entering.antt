@@ -39,7 +39,7 @@ use Rattle.ipa_transform.specs.Versioned.{picked}
 use Rattle.program_link.specs.Versions.{version_in}
 use Rattle.program_link.proofs.Facts.{same_number}
 use Rattle.program_link.proofs.VersionFacts.{VersionFacts}
-use Rattle.machine_laws.specs.Linked.{linked_code, linked_system}
+use Rattle.gimple_meaning.specs.Linked.{linked_code, linked_system}
 use Rattle.lowering_laws.specs.States.{is_alive}
 use Rattle.lowering_laws.specs.Linked.{linked}
 use Rattle.lowering_laws.proofs.Lists.{there, mapped_at}

@@ -26,9 +26,10 @@ use Rattle.func_summary.specs.Summarised.{IsSummarised}
 use Rattle.ipa_plan.specs.Rules.{Choice, kept_from, IsPlanned}
 use Rattle.ipa_transform.specs.Versioned.{picked}
 use Rattle.program_link.proofs.VersionFacts.{VersionFacts}
-use Rattle.machine_laws.specs.Linked.{linked_codes, linked_system}
+use Rattle.gimple_meaning.specs.Linked.{linked_codes, linked_system}
 use Rattle.lowering_laws.specs.States.{versions_view}
-use Rattle.lowering_laws.specs.Linked.{linked, linked_start}
+use Rattle.gimple_meaning.specs.Linked.{linked_start}
+use Rattle.lowering_laws.specs.Linked.{linked}
 use Rattle.lowering_laws.specs.Laws.{VersionsLaw}
 use Rattle.lowering_laws.proofs.Standing.{standing}
 use Rattle.lowering_laws.proofs.Named.{begins_at, same_arrays}

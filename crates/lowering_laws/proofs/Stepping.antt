@@ -41,9 +41,9 @@ use Rattle.func_summary.specs.Summarised.{IsSummarised}
 use Rattle.func_summary.proofs.Checked.{both-true}
 use Rattle.ipa_plan.specs.Rules.{Choice, kept_from}
 use Rattle.ipa_transform.specs.Versioned.{use_of, picked}
-use Rattle.rv64_select.specs.Assembly.{type_of, type_of_component, element_of}
+use Rattle.gimple_meaning.specs.Versioned.{type_of, type_of_component, element_of}
 use Rattle.program_link.specs.Versions.{member_of}
-use Rattle.machine_laws.specs.Typed.{TargetTyped, ArgumentsTyped}
+use Rattle.gimple_meaning.specs.Typed.{TargetTyped, ArgumentsTyped}
 use Rattle.lowering_laws.specs.States.{function_of_version}
 use Rattle.lowering_laws.specs.Linked.{given_type, result_type_of}
 use Rattle.program_link.proofs.VersionFacts.{VersionFacts}

@@ -39,12 +39,12 @@ use Rattle.func_summary.proofs.Checked.{both-true, below, all_at}
 use Rattle.ipa_plan.specs.Rules.{Choice, kept_from, IsPlanned}
 use Rattle.ipa_transform.specs.Versioned.{step_of, picked, kept_of}
 use Rattle.ipa_transform.specs.Versioned as lowered
-use Rattle.rv64_select.specs.Assembly.{type_of, type_of_component}
-use Rattle.rv64_select.specs.Versioned.{IsVersioned}
+use Rattle.gimple_meaning.specs.Versioned.{type_of, type_of_component}
+use Rattle.gimple_meaning.specs.Versioned.{IsVersioned}
 use Rattle.program_link.specs.Versions.{member_of, version_in, functions_of}
 use Rattle.program_link.proofs.Facts.{three_true, same_number}
-use Rattle.machine_laws.specs.Linked.{callee_number}
-use Rattle.machine_laws.specs.Typed.{TargetTyped, ArgumentsTyped, StepTyped, FunctionTyped, ProgramTyped}
+use Rattle.gimple_meaning.specs.Linked.{callee_number}
+use Rattle.gimple_meaning.specs.Typed.{TargetTyped, ArgumentsTyped, StepTyped, FunctionTyped, ProgramTyped}
 use Rattle.lowering_laws.specs.States.{function_of_version}
 use Rattle.lowering_laws.specs.Linked.{result_type_of, linked}
 use Rattle.lowering_laws.proofs.Lists.{there, from_mapped}

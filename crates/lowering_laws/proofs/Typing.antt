@@ -30,7 +30,7 @@ use Rattle.gimple_ir.specs.Statements as source
 use Rattle.gimple_ir.specs.Programs.{IsOperand, scope_of}
 use Rattle.gimple_meaning.specs.Source.{first_component, components_from, pairs_from, struct_pairs, operands_of}
 use Rattle.func_summary.proofs.Checked.{both-true, below, same_type-is}
-use Rattle.rv64_select.specs.Assembly.{type_of, type_of_component}
+use Rattle.gimple_meaning.specs.Versioned.{type_of, type_of_component}
 use Rattle.program_link.proofs.Facts.{three_true}
 use Rattle.lowering_laws.proofs.Lists.{there}
 use Rattle.lowering_laws.proofs.Standing.{version_at}

@@ -26,7 +26,7 @@ use Rattle.ipa_transform.specs.Versioned.{operands_of, use_of, picked, kept_of}
 use Rattle.program_link.specs.Versions.{array_use, call_use, member_of}
 use Rattle.program_link.proofs.Facts.{three_true}
 use Rattle.program_link.proofs.Uses.{use_found}
-use Rattle.machine_laws.specs.Linked.{linked_code, array_number}
+use Rattle.gimple_meaning.specs.Linked.{linked_code, array_number}
 use Rattle.lowering_laws.specs.Linked.{linked}
 use Rattle.lowering_laws.proofs.Lists.{mapped_at}
 use Rattle.program_link.proofs.VersionFacts.{VersionFacts}

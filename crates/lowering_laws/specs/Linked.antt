@@ -8,10 +8,8 @@ use Rattle.gimple_ir.specs.declared.types.ResultType.TheVariants as returned
 use Rattle.gimple_ir.specs.declared.types.Program.{Program}
 use Rattle.gimple_ir.specs.declared.plan.Plan.{Plan}
 use Rattle.gimple_ir.specs.declared.merged.Merged.{Merged}
-use Rattle.gimple_meaning.specs.Systems.{State, start_in}
-use Rattle.gimple_meaning.specs.Run.{run}
 use Rattle.program_link.specs.Versions.{functions_of}
-use Rattle.machine_laws.specs.Linked.{LinkedProgram, linked_system}
+use Rattle.gimple_meaning.specs.Linked.{LinkedProgram}
 use Rattle.machine_laws.specs.Plans.{linked_of}
 use Rattle.lowering_laws.specs.States.{function_of_version}
 
@@ -26,13 +24,3 @@ result_type_of p plan place = option_map_or (λ f. given_type f.result) (slice_g
 
 abbrev pub linked : Program → Merged → Plan → LinkedProgram
 linked p merged plan = linked_of plan merged (functions_of p merged plan) (result_type_of p plan)
-
--- ---- runs
-
--- one frame, of `main`, at its first step
-abbrev pub linked_start : LinkedProgram → List ℕ → State
-linked_start p input = start_in (linked_system p) p.arrays p.main input
-
--- on an input, after at most n steps
-abbrev pub linked_run : LinkedProgram → List ℕ → ℕ → State
-linked_run p input n = run (linked_system p) (linked_start p input) n

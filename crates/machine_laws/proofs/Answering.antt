@@ -12,7 +12,7 @@ use Rattle.gimple_meaning.specs.Steps.{Code, act, act_in, act_at}
 use Rattle.rv64_meaning.specs.Machine.{Segments, State}
 use Rattle.follow_laws.specs.Relation.{Leads, ComesTo, Advances, Works, Rests}
 use Rattle.follow_laws.proofs.WayLaws.{leads_on, leads_twice, comes_of, comes_to_end}
-use Rattle.machine_laws.specs.Linked.{LinkedProgram, linked_step, linked_code, linked_system, step_in, step_now, steps_left_in, steps_left}
+use Rattle.gimple_meaning.specs.Linked.{LinkedProgram, linked_step, linked_code, linked_system, step_in, step_now, steps_left_in, steps_left}
 use Rattle.machine_laws.specs.Layouts.{Layout}
 use Rattle.machine_laws.specs.Relation.{AtFrame, RelatedIn, Related, GoesOn, Answers}
 

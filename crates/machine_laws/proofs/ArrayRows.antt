@@ -26,16 +26,17 @@ use Rattle.rv64_select.specs.declared.item.Symbol.TheVariants as symbols
 use Rattle.rv64_select.specs.declared.item.Item.{Item}
 use Rattle.rv64_select.specs.declared.item.Item.TheVariants as item
 use Rattle.rv64_select.specs.Operations.{scaling, element_load, element_store}
-use Rattle.rv64_select.specs.Assembly.{plain, operand_in, set_in, type_of_component, element_of, address_items}
+use Rattle.gimple_meaning.specs.Versioned.{type_of_component, element_of}
+use Rattle.rv64_select.specs.Assembly.{plain, operand_in, set_in, address_items}
 use Rattle.rv64_select.specs.Code.{symbol_name}
-use Rattle.rv64_select.specs.Versioned.{ComponentFits, OperandFits, ArrayFits, StepFits}
+use Rattle.gimple_meaning.specs.Versioned.{ComponentFits, OperandFits, ArrayFits, StepFits}
 use Rattle.final_link.specs.Arrays.{element_size}
 use Rattle.follow_laws.specs.Relation.{ComesTo}
 use Rattle.follow_laws.specs.Frames.{form_of}
 use Rattle.follow_laws.proofs.WayLaws.{one, then, reach_on, leads_twice}
 use Rattle.follow_laws.proofs.FrameLaws.{data_reached}
-use Rattle.machine_laws.specs.Linked.{LinkedProgram, array_number, linked_system}
-use Rattle.machine_laws.specs.Typed.{ProgramTyped}
+use Rattle.gimple_meaning.specs.Linked.{LinkedProgram, array_number, linked_system}
+use Rattle.gimple_meaning.specs.Typed.{ProgramTyped}
 use Rattle.machine_laws.specs.Layouts.{Layout, IsPlaced, array_bytes, places_in, place_address}
 use Rattle.machine_laws.specs.Relation.{Holds, AtFrame, ArraysHeld, ElementHeld, element_bits}
 use Rattle.machine_laws.proofs.Lists.{all_at}

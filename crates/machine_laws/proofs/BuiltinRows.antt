@@ -21,7 +21,7 @@ use Rattle.rv64_select.specs.declared.item.Symbol.TheVariants as symbols
 use Rattle.rv64_select.specs.declared.item.Item.{Item}
 use Rattle.rv64_select.specs.declared.item.Item.TheVariants as item
 use Rattle.rv64_select.specs.Assembly.{plain, operand_in, assign_in}
-use Rattle.rv64_select.specs.Versioned.{StepFits}
+use Rattle.gimple_meaning.specs.Versioned.{StepFits}
 use Rattle.final_link.specs.Stubs.{putchar_address, getchar_address}
 use Rattle.follow_laws.specs.Relation.{StandsAt, ComesTo, EndsWith}
 use Rattle.follow_laws.specs.Follows.{AreBytes}
@@ -31,8 +31,8 @@ use Rattle.follow_laws.proofs.WayLaws.{reach_on, comes_of, comes_to_end, leads_t
 use Rattle.follow_laws.proofs.TemplateLaws.{call_goes}
 use Rattle.follow_laws.proofs.StubLaws.{exit_ends, putchar_writes, getchar_reads}
 use Rattle.follow_laws.proofs.FrameLaws.{low_byte_kept, data_reached}
-use Rattle.machine_laws.specs.Linked.{LinkedProgram, linked_system}
-use Rattle.machine_laws.specs.Typed.{ProgramTyped}
+use Rattle.gimple_meaning.specs.Linked.{LinkedProgram, linked_system}
+use Rattle.gimple_meaning.specs.Typed.{ProgramTyped}
 use Rattle.machine_laws.specs.Layouts.{Layout, IsPlaced, places_in, place_address}
 use Rattle.machine_laws.specs.Relation.{Holds, AtFrame}
 use Rattle.machine_laws.proofs.Lists.{all_at, some_same}

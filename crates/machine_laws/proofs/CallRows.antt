@@ -28,10 +28,11 @@ use Rattle.rv64_select.specs.declared.item.Symbol.TheVariants as symbols
 use Rattle.rv64_select.specs.declared.item.Item.{Item}
 use Rattle.rv64_select.specs.declared.item.Item.TheVariants as item
 use Rattle.rv64_select.specs.Templates.{constant, load_slot, store_slot, machine_form}
-use Rattle.rv64_select.specs.Assembly.{plain, operand_in, set_in, assign_in, type_of, type_of_component, enter_code, binding_items, bindings_items, entry_items, argument_items}
+use Rattle.gimple_meaning.specs.Versioned.{type_of, type_of_component}
+use Rattle.rv64_select.specs.Assembly.{plain, operand_in, set_in, assign_in, enter_code, binding_items, bindings_items, entry_items, argument_items}
 use Rattle.rv64_select.specs.Code.{words_in, steps_code}
 use Rattle.rv64_select.proofs.Laying.{words-append, words-plain}
-use Rattle.rv64_select.specs.Versioned.{ComponentFits, OperandFits, StepFits}
+use Rattle.gimple_meaning.specs.Versioned.{ComponentFits, OperandFits, StepFits}
 use Rattle.follow_laws.specs.Relation.{StandsAt, ComesTo, Leads}
 use Rattle.follow_laws.specs.Effects.{with_register, called}
 use Rattle.follow_laws.specs.Follows.{AreBytes}
@@ -41,8 +42,8 @@ use Rattle.follow_laws.proofs.WayLaws.{reach_on, leads_twice, stands_front}
 use Rattle.follow_laws.proofs.TemplateLaws.{constant_sets, load_sets, store_stores, call_goes, enter_makes_frame}
 use Rattle.follow_laws.proofs.SelectionLaws.{form_fits}
 use Rattle.follow_laws.proofs.FrameLaws.{fresh_held}
-use Rattle.machine_laws.specs.Linked.{LinkedProgram, linked_code, linked_system, callee_number}
-use Rattle.machine_laws.specs.Typed.{AreTyped, ArgumentsTyped, ProgramTyped}
+use Rattle.gimple_meaning.specs.Linked.{LinkedProgram, linked_code, linked_system, callee_number}
+use Rattle.gimple_meaning.specs.Typed.{AreTyped, ArgumentsTyped, ProgramTyped}
 use Rattle.machine_laws.specs.Layouts.{Layout, IsPlaced, top, places_in, entry_code, place_address}
 use Rattle.machine_laws.specs.Relation.{FrameStands, WaitsFor, FramesWait, ArraysHeld, Holds, AtFrame, GoesOn, Answers}
 use Rattle.machine_laws.proofs.Lists.{all_at, some_same}

@@ -23,12 +23,13 @@ use Rattle.follow_laws.specs.Relation as relation
 use Rattle.follow_laws.proofs.WayLaws.{reach_on, comes_of}
 use Rattle.follow_laws.proofs.StubLaws.{start_calls}
 use Rattle.follow_laws.proofs.SimulationLaws.{machine, steady, comes_there, leads_there, ends_there}
-use Rattle.machine_laws.specs.Linked.{LinkedProgram, linked_step, linked_code, linked_system, step_in, step_now, steps_left_in, steps_left}
-use Rattle.machine_laws.specs.Typed.{ProgramTyped}
+use Rattle.gimple_meaning.specs.Linked.{LinkedProgram, linked_step, linked_code, linked_system, step_in, step_now, steps_left_in, steps_left}
+use Rattle.gimple_meaning.specs.Typed.{ProgramTyped}
 use Rattle.machine_laws.specs.Layouts.{Layout, IsPlaced, top, first_return}
 use Rattle.machine_laws.specs.Relation.{FramesWait, ArraysHeld, AtFrame, RelatedIn, Related, Answers}
 use Rattle.machine_laws.specs.Rows.{Row}
-use Rattle.machine_laws.specs.Starts.{AtStart, linked_run}
+use Rattle.gimple_meaning.specs.Linked.{linked_run}
+use Rattle.machine_laws.specs.Starts.{AtStart}
 use Rattle.machine_laws.proofs.CallRows.{BindingFits, Ready, entry_run}
 
 -- a row for every form of a step

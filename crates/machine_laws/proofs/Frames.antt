@@ -8,7 +8,7 @@ use Rattle.rv64_meaning.specs.Machine.{Segments, State, can_load, can_store}
 use Rattle.rv64_abi.specs.Registers.{sp}
 use Rattle.rv64_frame.specs.Frames.{frame_size}
 use Rattle.follow_laws.proofs.FrameLaws.{data_reached}
-use Rattle.machine_laws.specs.Linked.{LinkedProgram}
+use Rattle.gimple_meaning.specs.Linked.{LinkedProgram}
 use Rattle.machine_laws.specs.Layouts.{Layout, IsPlaced, top}
 use Rattle.machine_laws.specs.Relation.{FramesWait, Holds}
 

@@ -11,7 +11,7 @@ use Rattle.rv64_meaning.specs.Machine.{Segments, load, store, store_bytes}
 use Rattle.rv64_frame.specs.Frames.{component_slot, return_slot, frame_size}
 use Rattle.final_link.specs.Arrays.{element_size}
 use Rattle.follow_laws.specs.Frames.{FrameHeld}
-use Rattle.machine_laws.specs.Linked.{LinkedProgram}
+use Rattle.gimple_meaning.specs.Linked.{LinkedProgram}
 use Rattle.machine_laws.specs.Layouts.{Layout, IsPlaced}
 use Rattle.machine_laws.specs.Relation.{FrameStands, FramesWait, ArraysHeld}
 

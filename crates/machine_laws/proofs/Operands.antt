@@ -16,9 +16,10 @@ use Rattle.rv64_meaning.specs.Machine.{Segments, State, read_reg, set_at, load, 
 use Rattle.rv64_meaning.proofs.MemoryLaws.{load_same, load_apart}
 use Rattle.rv64_frame.specs.Frames.{component_slot, return_slot, frame_of, frame_size}
 use Rattle.rv64_select.specs.Templates.{machine_form}
-use Rattle.rv64_select.specs.Assembly.{type_of, type_of_component, set_in}
+use Rattle.gimple_meaning.specs.Versioned.{type_of, type_of_component}
+use Rattle.rv64_select.specs.Assembly.{set_in}
 use Rattle.rv64_select.specs.Code.{operand_code}
-use Rattle.rv64_select.specs.Versioned.{ComponentFits, OperandFits}
+use Rattle.gimple_meaning.specs.Versioned.{ComponentFits, OperandFits}
 use Rattle.follow_laws.specs.Relation.{StandsAt, ComesTo}
 use Rattle.follow_laws.specs.Effects.{Differ, with_register}
 use Rattle.follow_laws.specs.Follows.{AreBytes}
@@ -27,8 +28,8 @@ use Rattle.follow_laws.specs.Selections.{operand_bits, CanRead}
 use Rattle.follow_laws.proofs.TemplateLaws.{set_other, store_stores}
 use Rattle.follow_laws.proofs.SelectionLaws.{operand_sets}
 use Rattle.follow_laws.proofs.FrameLaws.{operand_held}
-use Rattle.machine_laws.specs.Linked.{LinkedProgram}
-use Rattle.machine_laws.specs.Typed.{AreTyped}
+use Rattle.gimple_meaning.specs.Linked.{LinkedProgram}
+use Rattle.gimple_meaning.specs.Typed.{AreTyped}
 use Rattle.machine_laws.specs.Layouts.{Layout, IsPlaced}
 use Rattle.machine_laws.specs.Relation.{FrameStands, FramesWait, Holds}
 use Rattle.machine_laws.proofs.Memory.{SameFrom, SameBelow, store_kept, stands_kept, waiting_kept, arrays_kept}

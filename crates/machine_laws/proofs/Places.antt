@@ -23,15 +23,16 @@ use Rattle.rv64_select.specs.declared.item.Item.{Item}
 use Rattle.rv64_select.specs.declared.item.Item.TheVariants as item
 use Rattle.rv64_select.specs.Templates.{constant, load_slot, store_slot, machine_form}
 use Rattle.rv64_select.specs.Operations.{branch, operation, unary_operation, conversion, scaling}
-use Rattle.rv64_select.specs.Assembly.{plain, operand_in, set_in, assign_in, type_of, type_of_component, element_of, enter_code, leave_code, binding_items, bindings_items, entry_items, return_items, case_items, pair_items, argument_items, address_items, step_items}
+use Rattle.gimple_meaning.specs.Versioned.{type_of, type_of_component, element_of}
+use Rattle.rv64_select.specs.Assembly.{plain, operand_in, set_in, assign_in, enter_code, leave_code, binding_items, bindings_items, entry_items, return_items, case_items, pair_items, argument_items, address_items, step_items}
 use Rattle.rv64_select.specs.Code.{words_of, words_in, is_label, label_from, Places, resolved, step_code, steps_code}
 use Rattle.rv64_select.proofs.Laying.{words-cons, words-append, laid-append, length-direct}
 use Rattle.follow_laws.specs.Relation.{StandsAt}
 use Rattle.follow_laws.specs.Selections.{address_of}
 use Rattle.follow_laws.proofs.WayLaws.{stands_back}
 use Rattle.follow_laws.proofs.SelectionLaws.{steps_stand}
-use Rattle.machine_laws.specs.Linked.{LinkedProgram, linked_step}
-use Rattle.machine_laws.specs.Typed.{StandsOnce}
+use Rattle.gimple_meaning.specs.Linked.{LinkedProgram, linked_step}
+use Rattle.gimple_meaning.specs.Typed.{StandsOnce}
 use Rattle.machine_laws.specs.Layouts.{Layout, FunctionPlaced, places_in, function_code, entry_code, place_address}
 
 -- ---- a function's body

@@ -20,13 +20,14 @@ use Rattle.rv64_meaning.specs.Arithmetic.{plus}
 use Rattle.rv64_meaning.specs.Machine.{Segments, State, Go, fetch, put, goto}
 use Rattle.rv64_frame.specs.Frames.{frame_of}
 use Rattle.rv64_select.specs.declared.item.Item.{Item}
-use Rattle.rv64_select.specs.Assembly.{plain, operand_in, set_in, type_of, type_of_component, pair_items, step_items}
+use Rattle.gimple_meaning.specs.Versioned.{type_of, type_of_component}
+use Rattle.rv64_select.specs.Assembly.{plain, operand_in, set_in, pair_items, step_items}
 use Rattle.rv64_select.specs.Code.{step_code}
-use Rattle.rv64_select.specs.Versioned.{ComponentFits, OperandFits, LabelFits, StepFits}
+use Rattle.gimple_meaning.specs.Versioned.{ComponentFits, OperandFits, LabelFits, StepFits}
 use Rattle.follow_laws.specs.Relation.{ComesTo}
 use Rattle.follow_laws.proofs.WayLaws.{one, reach_on}
-use Rattle.machine_laws.specs.Linked.{LinkedProgram, linked_code, linked_system}
-use Rattle.machine_laws.specs.Typed.{ProgramTyped}
+use Rattle.gimple_meaning.specs.Linked.{LinkedProgram, linked_code, linked_system}
+use Rattle.gimple_meaning.specs.Typed.{ProgramTyped}
 use Rattle.machine_laws.specs.Layouts.{Layout, IsPlaced, places_in, place_address}
 use Rattle.machine_laws.specs.Relation.{Holds, AtFrame, Answers}
 use Rattle.machine_laws.proofs.Lists.{all_at}

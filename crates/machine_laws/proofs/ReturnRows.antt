@@ -20,15 +20,15 @@ use Rattle.rv64_select.specs.declared.item.Symbol.TheVariants as symbols
 use Rattle.rv64_select.specs.declared.item.Item.TheVariants as item
 use Rattle.rv64_select.specs.Assembly.{plain, operand_in, assign_in, argument_items, leave_code}
 use Rattle.rv64_select.specs.Code.{words_in}
-use Rattle.rv64_select.specs.Versioned.{TargetFits, StepFits}
+use Rattle.gimple_meaning.specs.Versioned.{TargetFits, StepFits}
 use Rattle.follow_laws.specs.Relation.{StandsAt, ComesTo, EndsWith}
 use Rattle.follow_laws.specs.Frames.{form_of}
 use Rattle.follow_laws.proofs.WayLaws.{comes_of, comes_to_end}
 use Rattle.follow_laws.proofs.TemplateLaws.{leave_returns}
 use Rattle.follow_laws.proofs.StubLaws.{exit_ends}
 use Rattle.follow_laws.proofs.FrameLaws.{low_byte_kept}
-use Rattle.machine_laws.specs.Linked.{LinkedProgram, linked_step, linked_code, linked_system}
-use Rattle.machine_laws.specs.Typed.{ProgramTyped, TargetTyped}
+use Rattle.gimple_meaning.specs.Linked.{LinkedProgram, linked_step, linked_code, linked_system}
+use Rattle.gimple_meaning.specs.Typed.{ProgramTyped, TargetTyped}
 use Rattle.machine_laws.specs.Layouts.{Layout, IsPlaced, places_in, place_address}
 use Rattle.machine_laws.specs.Relation.{FrameStands, WaitsFor, FramesWait, ArraysHeld, Holds, AtFrame, Answers}
 use Rattle.machine_laws.proofs.Lists.{all_at, some_same}

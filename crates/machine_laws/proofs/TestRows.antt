@@ -25,16 +25,17 @@ use Rattle.rv64_select.specs.declared.item.Item.{Item}
 use Rattle.rv64_select.specs.declared.item.Item.TheVariants as item
 use Rattle.rv64_select.specs.Operations as selected
 use Rattle.rv64_select.specs.Templates.{constant, machine_form}
-use Rattle.rv64_select.specs.Assembly.{plain, operand_in, type_of, case_items}
-use Rattle.rv64_select.specs.Versioned.{LabelFits, StepFits}
+use Rattle.gimple_meaning.specs.Versioned.{type_of}
+use Rattle.rv64_select.specs.Assembly.{plain, operand_in, case_items}
+use Rattle.gimple_meaning.specs.Versioned.{LabelFits, StepFits}
 use Rattle.follow_laws.specs.Relation.{StandsAt, ComesTo}
 use Rattle.follow_laws.specs.Effects.{with_register}
 use Rattle.follow_laws.specs.Frames.{form_of}
 use Rattle.follow_laws.proofs.WayLaws.{one, leads_twice, reach_on}
 use Rattle.follow_laws.proofs.TemplateLaws.{constant_sets}
 use Rattle.follow_laws.proofs.SelectionLaws.{form_fits}
-use Rattle.machine_laws.specs.Linked.{LinkedProgram, linked_code, linked_system}
-use Rattle.machine_laws.specs.Typed.{ProgramTyped}
+use Rattle.gimple_meaning.specs.Linked.{LinkedProgram, linked_code, linked_system}
+use Rattle.gimple_meaning.specs.Typed.{ProgramTyped}
 use Rattle.machine_laws.specs.Layouts.{Layout, IsPlaced, places_in, place_address}
 use Rattle.machine_laws.specs.Relation.{Holds, AtFrame}
 use Rattle.machine_laws.proofs.Lists.{all_at}

@@ -19,14 +19,15 @@ use Rattle.rv64_meaning.specs.Machine.{Segments, State}
 use Rattle.rv64_frame.specs.Frames.{frame_of}
 use Rattle.rv64_select.specs.declared.item.Item.{Item}
 use Rattle.rv64_select.specs.Operations.{operation, unary_operation, conversion}
-use Rattle.rv64_select.specs.Assembly.{plain, operand_in, set_in, type_of, type_of_component}
-use Rattle.rv64_select.specs.Versioned.{ComponentFits, OperandFits, StepFits}
+use Rattle.gimple_meaning.specs.Versioned.{type_of, type_of_component}
+use Rattle.rv64_select.specs.Assembly.{plain, operand_in, set_in}
+use Rattle.gimple_meaning.specs.Versioned.{ComponentFits, OperandFits, StepFits}
 use Rattle.follow_laws.specs.Relation.{ComesTo}
 use Rattle.follow_laws.specs.Effects.{Differ}
 use Rattle.follow_laws.specs.Frames.{form_of}
 use Rattle.follow_laws.proofs.WayLaws.{reach_on}
-use Rattle.machine_laws.specs.Linked.{LinkedProgram, linked_system}
-use Rattle.machine_laws.specs.Typed.{ProgramTyped}
+use Rattle.gimple_meaning.specs.Linked.{LinkedProgram, linked_system}
+use Rattle.gimple_meaning.specs.Typed.{ProgramTyped}
 use Rattle.machine_laws.specs.Layouts.{Layout, IsPlaced, places_in, place_address}
 use Rattle.machine_laws.specs.Relation.{Holds, AtFrame}
 use Rattle.machine_laws.proofs.Lists.{all_at, some_same}

@@ -16,7 +16,7 @@ use Rattle.final_link.specs.Arrays.{element_size}
 use Rattle.final_link.specs.Stubs.{start_address, putchar_address, getchar_address, putchar_stub, getchar_stub}
 use Rattle.follow_laws.specs.Relation.{StandsAt}
 use Rattle.follow_laws.specs.Selections.{address_of}
-use Rattle.machine_laws.specs.Linked.{LinkedProgram}
+use Rattle.gimple_meaning.specs.Linked.{LinkedProgram}
 
 pub record Layout : Type 0 where
   -- the address of each symbol, and of the array with a number

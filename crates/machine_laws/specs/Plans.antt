@@ -10,7 +10,7 @@ use Rattle.final_link.specs.Names.{value_of}
 use Rattle.final_link.specs.Arrays.{array_symbol}
 use Rattle.final_link.specs.Symbols.{arrays_in_order}
 use Rattle.final_link.specs.Placing.{is_first_of}
-use Rattle.machine_laws.specs.Linked.{LinkedProgram}
+use Rattle.gimple_meaning.specs.Linked.{LinkedProgram}
 
 -- `results` has what each version gives where it gives something, by its place
 abbrev pub linked_of : Plan → Merged → List VersionedFunction → (ℕ → ScalarType) → LinkedProgram

@@ -24,8 +24,8 @@ use Rattle.final_link.specs.Arrays.{element_size}
 use Rattle.follow_laws.specs.Follows.{AreBytes}
 use Rattle.follow_laws.specs.Frames.{FrameHeld}
 use Rattle.follow_laws.specs.Relation.{Advances, EndsWith}
-use Rattle.machine_laws.specs.Linked.{LinkedProgram, callee_number, steps_left}
-use Rattle.machine_laws.specs.Typed.{AreTyped}
+use Rattle.gimple_meaning.specs.Linked.{LinkedProgram, callee_number, steps_left}
+use Rattle.gimple_meaning.specs.Typed.{AreTyped}
 use Rattle.machine_laws.specs.Layouts.{Layout, top, place_address, first_return}
 
 -- ---- frames

@@ -10,8 +10,8 @@ use Rattle.gimple_ir.specs.declared.versioned.Step.{Step}
 use Rattle.gimple_ir.specs.declared.versioned.Step.TheVariants.{Nop, Label, Goto, Cond, Switch, Return, Copies, Unary, Convert, Binary, Load, Store, Call, Putchar, Getchar, Exit}
 use Rattle.gimple_meaning.specs.Systems.{Machine, Running, step}
 use Rattle.rv64_meaning.specs.Machine.{Segments, State}
-use Rattle.machine_laws.specs.Linked.{LinkedProgram, linked_system, step_now, steps_left}
-use Rattle.machine_laws.specs.Typed.{ProgramTyped}
+use Rattle.gimple_meaning.specs.Linked.{LinkedProgram, linked_system, step_now, steps_left}
+use Rattle.gimple_meaning.specs.Typed.{ProgramTyped}
 use Rattle.machine_laws.specs.Layouts.{Layout, IsPlaced}
 use Rattle.machine_laws.specs.Relation.{Related, Answers}
 

@@ -9,8 +9,8 @@ use Rattle.final_link.specs.Stubs.{start_address, start_stub}
 use Rattle.gimple_meaning.specs.Shown.{shown_of, RunFollows}
 use Rattle.follow_laws.specs.Follows.{shown_by, AreBytes}
 use Rattle.follow_laws.specs.Relation.{StandsAt}
-use Rattle.machine_laws.specs.Linked.{LinkedProgram, linked_system}
-use Rattle.machine_laws.specs.Typed.{ProgramTyped}
+use Rattle.gimple_meaning.specs.Linked.{LinkedProgram, linked_run}
+use Rattle.gimple_meaning.specs.Typed.{ProgramTyped}
 use Rattle.machine_laws.specs.Layouts.{Layout, IsPlaced, top}
 use Rattle.machine_laws.specs.Relation.{ArraysHeld}
 
@@ -24,10 +24,6 @@ pub record AtStart (m : Segments) (l : Layout) (p : LinkedProgram) (input : List
   pub input_left : s.input ≡ input
   pub input_bytes : AreBytes input
   pub written : s.output ≡ []
-
--- the run of a program on an input, by the number of steps
-abbrev pub linked_run : LinkedProgram → List ℕ → ℕ → program.State
-linked_run p input n = run (linked_system p) (start_in (linked_system p) p.arrays p.main input) n
 
 -- from its start the machine follows the program
 abbrev pub MachineFollows : Type 0

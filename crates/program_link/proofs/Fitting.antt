@@ -26,9 +26,8 @@ use Rattle.func_summary.specs.Summarised.{module_of, IsSummarised}
 use Rattle.func_summary.proofs.Checked.{both-true, below}
 use Rattle.ipa_transform.specs.Versioned.{operands_of, use_of, picked, kept_of, step_of, calls_in, steps_of, versioned_of}
 use Rattle.ipa_transform.specs.Members.{IsMember}
-use Rattle.rv64_frame.specs.Frames.{passed_of, outgoing_of}
-use Rattle.rv64_select.specs.Versioned.{StepFits, ComponentFits, OperandFits, ArrayFits, IsVersioned, bound_of}
-use Rattle.rv64_select.specs.Versioned.{operands_in as step_operands}
+use Rattle.gimple_meaning.specs.Versioned.{passed_in, most_passed, StepFits, ComponentFits, OperandFits, ArrayFits, IsVersioned, bound_of}
+use Rattle.gimple_meaning.specs.Versioned.{operands_in as step_operands}
 use Rattle.ipa_plan.specs.Rules.{Choice}
 use Rattle.program_link.specs.Versions.{array_use, member_of}
 use Rattle.program_link.proofs.Facts.{three_true, four_true, HasLabels}
@@ -126,7 +125,7 @@ call_passes program merged plan choice version f i to g args k =
       picked_kept (flat_map (operands_of (types_of f.variables)) args) (kept_of (member_of program merged plan version f).calls (calls_before f.body i)) call.rules.target.bindings call.kept,
     )
 
-passes : (program : Program) (merged : Merged) (plan : Plan) (choice : Choice) (version : Version) (f : Function) (i : ℕ) (s : Statement) → Stands program merged plan choice version f i s → passed_of (step_of (member_of program merged plan version f) (calls_before f.body i) s) ≤ 64
+passes : (program : Program) (merged : Merged) (plan : Plan) (choice : Choice) (version : Version) (f : Function) (i : ℕ) (s : Statement) → Stands program merged plan choice version f i s → passed_in (step_of (member_of program merged plan version f) (calls_before f.body i) s) ≤ 64
 passes program merged plan choice version f i (Call to g args) k = omega (arith, call_passes program merged plan choice version f i to g args k, call_few program merged f to g args k.summarised k.counts k.types)
 passes program merged plan choice version f i _ k = omega arith
 
@@ -141,12 +140,12 @@ reads program merged plan choice version f i _ k = omega arith
 -- the step that the statement becomes, before which n functions were called
 record Sound (program : Program) (merged : Merged) (plan : Plan) (choice : Choice) (version : Version) (f : Function) (n : ℕ) (s : Statement) : Type 0 where
   fits : StepFits (version_at program merged plan version f) (step_of (member_of program merged plan version f) n s)
-  passes : passed_of (step_of (member_of program merged plan version f) n s) ≤ 64
+  passes : passed_in (step_of (member_of program merged plan version f) n s) ≤ 64
   reads : step_operands (step_of (member_of program merged plan version f) n s) ≤ operands_in f.variables s
 
 record AreSound (program : Program) (merged : Merged) (plan : Plan) (choice : Choice) (version : Version) (f : Function) (n : ℕ) (ss : List Statement) : Type 0 where
   fit : All (StepFits (version_at program merged plan version f)) (steps_of (member_of program merged plan version f) n ss)
-  pass : outgoing_of (steps_of (member_of program merged plan version f) n ss) ≤ 64
+  pass : most_passed (steps_of (member_of program merged plan version f) n ss) ≤ 64
   read : sum_by (λ s. 7 + 11 * step_operands s) (steps_of (member_of program merged plan version f) n ss) ≤ sum_by (λ s. 7 + 11 * operands_in f.variables s) ss
 
 sound_steps : (program : Program) (merged : Merged) (plan : Plan) (choice : Choice) (version : Version) (f : Function) (n : ℕ) (ss : List Statement) → ((i : ℕ) (s : Statement) → slice_get ss i ≡ Some s → Sound program merged plan choice version f (n + calls_before ss i) s) → AreSound program merged plan choice version f n ss
@@ -203,7 +202,8 @@ version_fits program merged plan choice version f summarised known =
     let body = sound_body program merged plan choice version f summarised known in
     let bindings = few_bindings program merged plan choice version f known in
     record {
-      slots = record { components = omega (arith, known.facts.components, all_components f.variables); arguments = body.pass };
+      components = omega (arith, known.facts.components, all_components f.variables);
+      arguments = body.pass;
       steps = body.fit;
       bound = omega (arith, known.facts.bound, bindings, body.read);
     }

@@ -29,7 +29,8 @@ use Rattle.rv64_select.specs.declared.references.Reference.{Reference}
 use Rattle.rv64_select.specs.Assembly.{assembly_of}
 use Rattle.rv64_select.specs.Code.{symbol_name}
 use Rattle.rv64_select.specs.Selected.{with_name, with_reference, references, names_of_code}
-use Rattle.rv64_select.specs.Versioned.{SymbolFits, IsVersioned}
+use Rattle.rv64_select.specs.Items.{SymbolFits}
+use Rattle.gimple_meaning.specs.Versioned.{IsVersioned}
 use Rattle.rv64_select.proofs.Fits.{assembly_fits, references_fit}
 use Rattle.final_link.specs.Arrays.{size_of, is_zeroed, array_symbol}
 use Rattle.final_link.specs.Image.{round_up}

@@ -11,7 +11,7 @@ use Rattle.elf_container.specs.declared.relocatable.RelSymbol.{RelSymbol}
 use Rattle.elf_container.specs.declared.relocatable.Reloc.{Reloc}
 use Rattle.elf_container.specs.declared.relocatable.RelocObject.{RelocObject}
 use Rattle.elf_container.specs.Relocatable.{is_defined, fill_from, relocs_from, named_in_order, SymbolFits}
-use Rattle.rv64_select.specs.Versioned.{IsVersioned, bound_of}
+use Rattle.gimple_meaning.specs.Versioned.{IsVersioned, bound_of}
 use Rattle.rv64_select.specs.Assembly.{assembly_of}
 use Rattle.rv64_select.specs.Selected.{words_of_code, names_of_code, relocations_of_code, references, place_of, relocation_of}
 use Rattle.final_link.specs.Members.{HasFrame}
@@ -20,6 +20,7 @@ use Rattle.program_link.specs.Objects.{defined_symbol, own_symbol, other_symbol,
 use Rattle.program_link.proofs.OwnFirst.{distinct, own_first_once, own_first_count, next_place}
 use Rattle.program_link.proofs.PartForm.{relocs_placed, named_placed, named_below, relocations_placed, names_again, one_defined, fill_own, strings_short, names_few, relocations_fit}
 use Rattle.program_link.proofs.PartFrame.{has_frame}
+use Rattle.rv64_select.proofs.FewSlots.{few_slots}
 
 -- what is known of a version's code
 pub record IsKnownCode (f : VersionedFunction) : Type 0 where
@@ -119,5 +120,5 @@ part_is f o k symbols words relocations fits short =
         relocations = fit.1;
         strings = omega (arith, strings_short o.symbols fits, fit.0);
       };
-      frame = subst HasFrame (sym words) (has_frame f k.versioned.slots);
+      frame = subst HasFrame (sym words) (has_frame f (few_slots f k.versioned));
     }

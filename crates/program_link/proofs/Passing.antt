@@ -36,7 +36,7 @@ use Rattle.func_summary.specs.Summaries.{edge_of, edges_of}
 use Rattle.func_summary.proofs.Checked.{both-true, below, all_at, all_flat_map, place_inside}
 use Rattle.ipa_transform.specs.Versioned.{first_component, field_count, operands_of, struct_pairs, at_place, picked, kept_of, calls_in, versioned_of}
 use Rattle.ipa_transform.proofs.Sums.{field_count-within}
-use Rattle.rv64_select.specs.Versioned.{ComponentFits, OperandFits, TargetFits}
+use Rattle.gimple_meaning.specs.Versioned.{ComponentFits, OperandFits, TargetFits}
 use Rattle.ipa_plan.specs.Rules.{Choice, kept_from, IsCallOf}
 use Rattle.program_link.specs.Versions.{call_use, member_of}
 use Rattle.program_link.proofs.Listing.{map_here}

@@ -25,8 +25,9 @@ use Rattle.ipa_plan.specs.Rules.{Choice, is_reduced, symbol_of, IsVersionIn, IsB
 use Rattle.ipa_transform.specs.Versioned.{versioned_of}
 use Rattle.rv64_frame.specs.Frames.{HasFewSlots}
 use Rattle.rv64_frame.specs.Frames as frames
-use Rattle.rv64_select.specs.Versioned.{bound_of}
+use Rattle.gimple_meaning.specs.Versioned.{bound_of}
 use Rattle.rv64_select.specs.Selected.{words_of_code}
+use Rattle.rv64_select.proofs.FewSlots.{few_slots}
 use Rattle.rv64_select.proofs.Bounds.{assembly-short}
 use Rattle.final_link.specs.declared.members.Member.{Member}
 use Rattle.final_link.specs.Stubs.{start_address, functions_address}
@@ -140,7 +141,7 @@ bounded p merged plan choice summarised version known =
     let k = version_facts p merged plan choice version summarised known in
     let facts = k.1 in
     record {
-      slots = version_has p merged plan choice HasFewSlots summarised (λ v f h. (version_fits p merged plan choice v f summarised h).slots) version known;
+      slots = version_has p merged plan choice HasFewSlots summarised (λ v f h. few_slots (versioned_of (member_of p merged plan v f)) (version_fits p merged plan choice v f summarised h)) version known;
       bound = subst (λ (f : Function). bound_of (versioned_of (member_of p merged plan version f)) ≤ version.size)
           (sym facts.is) (omega (arith, version_bound p merged plan choice version k.0 summarised facts, facts.size));
       name = k.0.name;
@@ -157,7 +158,7 @@ all_bounded p merged plan summarised planned =
     (All-weaker (IsVersionIn merged plan planned.choice) (Bounded p merged plan) (bounded p merged plan planned.choice summarised) plan.versions planned.versions)
 
 all_few : (p : Program) (merged : Merged) (plan : Plan) → IsSummarised p merged → IsPlanned merged plan → AllByRecursion HasFewSlots (functions_of p merged plan)
-all_few p merged plan summarised planned = versions_have p merged plan HasFewSlots summarised planned (λ v f h. (version_fits p merged plan planned.choice v f summarised h).slots)
+all_few p merged plan summarised planned = versions_have p merged plan HasFewSlots summarised planned (λ v f h. few_slots (versioned_of (member_of p merged plan v f)) (version_fits p merged plan planned.choice v f summarised h))
 
 -- the size of each frame is read from the words
 pub framed : (p : Program) (merged : Merged) (plan : Plan) → IsSummarised p merged → IsPlanned merged plan

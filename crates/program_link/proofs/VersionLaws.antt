@@ -16,7 +16,7 @@ use Rattle.gimple_ir.specs.Names.{repeats}
 use Rattle.func_summary.specs.Summaries.{arrays_of}
 use Rattle.func_summary.specs.Summarised.{module_of}
 use Rattle.ipa_plan.specs.Rules.{Choice}
-use Rattle.rv64_select.specs.Versioned.{IsVersioned}
+use Rattle.gimple_meaning.specs.Versioned.{IsVersioned}
 use Rattle.final_link.specs.Arrays.{array_size, array_symbol, size_of, is_zeroed}
 use Rattle.final_link.specs.Image.{round_up}
 use Rattle.final_link.specs.Stubs.{functions_address}

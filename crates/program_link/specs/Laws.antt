@@ -8,7 +8,7 @@ use Rattle.gimple_ir.specs.declared.unit.ArrayUse.{ArrayUse}
 use Rattle.gimple_ir.specs.Names.{repeats}
 use Rattle.func_summary.specs.Summarised.{IsSummarised}
 use Rattle.ipa_plan.specs.Rules.{IsPlanned}
-use Rattle.rv64_select.specs.Versioned.{IsVersioned}
+use Rattle.gimple_meaning.specs.Versioned.{IsVersioned}
 use Rattle.final_link.specs.Stubs.{start_address, functions_address}
 use Rattle.final_link.specs.Arrays.{size_of}
 use Rattle.final_link.specs.Symbols.{end_of, arrays_in_order}

@@ -3,7 +3,7 @@ ghost use Rattle.std.specs.Prelude.{◌≡◌, ◌<◌, length, map, All, IfOk};
 ghost use Rattle.func_summary.specs.Summarised.{IsSummarised};
 ghost use Rattle.ipa_transform.specs.Versioned.{versioned_of};
 ghost use Rattle.ipa_transform.specs.Members.{IsMember};
-ghost use Rattle.rv64_select.specs.Versioned.{IsVersioned};
+ghost use Rattle.gimple_meaning.specs.Versioned.{IsVersioned};
 ghost use Rattle.program_link.specs.Known.{array_symbols, IsSomeVersion};
 ghost use Rattle.program_link.specs.Versions.{array_use, call_use, function_at, member_of};
 

@@ -5,7 +5,7 @@ ghost use Rattle.gimple_ir.specs.Names.{repeats};
 ghost use Rattle.ipa_transform.specs.Versioned.{versioned_of};
 ghost use Rattle.ipa_transform.specs.Members.{IsMember};
 ghost use Rattle.elf_container.specs.Relocatable.{SymbolFits, relocs_from, named_in_order};
-ghost use Rattle.rv64_select.specs.Versioned.{IsVersioned, bound_of};
+ghost use Rattle.gimple_meaning.specs.Versioned.{IsVersioned, bound_of};
 ghost use Rattle.rv64_select.specs.Selected.{words_of_code, names_of_code, relocations_of_code, place_of};
 ghost use Rattle.program_link.specs.Known.{IsPart};
 ghost use Rattle.program_link.specs.Objects.{defined_symbol, other_symbol, others, object_place, placed, object_of};

@@ -29,9 +29,10 @@ use Rattle.rv64_select.specs.declared.item.Item.{Item}
 use Rattle.rv64_select.specs.declared.item.Item.TheVariants as item
 use Rattle.rv64_select.specs.Templates.{is_signed_in, long_constant, constant_in, constant, load_slot, store_slot, machine_form}
 use Rattle.rv64_select.specs.Operations.{branch, operation, unary_operation, conversion, scaling}
-use Rattle.rv64_select.specs.Assembly.{plain, operand_in, set_in, assign_in, type_of, type_of_component, element_of, enter_code, leave_code, binding_items, bindings_items, case_items, pair_items, argument_items, address_items, step_items, assembly_of}
+use Rattle.gimple_meaning.specs.Versioned.{type_of, type_of_component, element_of}
+use Rattle.rv64_select.specs.Assembly.{plain, operand_in, set_in, assign_in, enter_code, leave_code, binding_items, bindings_items, case_items, pair_items, argument_items, address_items, step_items, assembly_of}
 use Rattle.rv64_select.specs.Code.{words_in}
-use Rattle.rv64_select.specs.Versioned.{operands_in, bound_of}
+use Rattle.gimple_meaning.specs.Versioned.{operands_in, bound_of}
 use Rattle.std.proofs.lemmas.List.Sums.{sum_by-cons}
 use Rattle.rv64_select.proofs.Laying.{words-cons, words-append, words-plain}
 

@@ -24,10 +24,12 @@ use Rattle.rv64_select.specs.declared.item.Item.{Item}
 use Rattle.rv64_select.specs.declared.item.Item.TheVariants as item
 use Rattle.rv64_select.specs.Templates.{constant, store_slot, machine_form}
 use Rattle.rv64_select.specs.Operations.{branch, operation, unary_operation, conversion, scaling}
-use Rattle.rv64_select.specs.Assembly.{plain, operand_in, set_in, assign_in, type_of, type_of_component, element_of, enter_code, leave_code, binding_items, bindings_items, case_items, pair_items, argument_items, address_items, step_items, assembly_of}
+use Rattle.gimple_meaning.specs.Versioned.{type_of, type_of_component, element_of}
+use Rattle.rv64_select.specs.Assembly.{plain, operand_in, set_in, assign_in, enter_code, leave_code, binding_items, bindings_items, case_items, pair_items, argument_items, address_items, step_items, assembly_of}
 use Rattle.rv64_select.specs.Code.{words_of, words_in, laid, blank, is_label, label_from, label_offset}
 use Rattle.rv64_select.specs.Selected.{reference_of}
-use Rattle.rv64_select.specs.Versioned.{LabelBelow, SymbolFits, StepFits, IsVersioned}
+use Rattle.rv64_select.specs.Items.{LabelBelow, SymbolFits}
+use Rattle.gimple_meaning.specs.Versioned.{StepFits, IsVersioned}
 use Rattle.rv64_select.proofs.Laying.{words-cons}
 use Rattle.rv64_select.proofs.Encodes.{all_append, constant_encodes, load_encodes, store_encodes, enter_encodes, leave_encodes, branch_encodes, operation_encodes, unary_encodes, conversion_encodes, scaling_encodes, element_load_encodes, element_store_encodes, distance_fits}
 

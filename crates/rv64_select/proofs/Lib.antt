@@ -1,4 +1,5 @@
 pub mod Laying
+pub mod FewSlots
 pub mod Bounds
 pub mod Encodes
 pub mod Fits

@@ -21,7 +21,7 @@ use Rattle.rv64_select.specs.Operations.{element_load, element_store}
 use Rattle.rv64_select.specs.Assembly.{assembly_of}
 use Rattle.rv64_select.specs.Code.{words_of, laid, blank, label_offset}
 use Rattle.rv64_select.specs.Selected.{words_of_code, names_of_code, relocations_of_code, reference_of, relocation_of}
-use Rattle.rv64_select.specs.Versioned.{IsVersioned}
+use Rattle.gimple_meaning.specs.Versioned.{IsVersioned}
 use Rattle.rv64_select.proofs.Laying.{length-blank}
 use Rattle.rv64_select.proofs.Fits.{ItemFits, AllFit, assembly_fits}
 

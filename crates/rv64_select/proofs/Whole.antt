@@ -13,7 +13,9 @@ use Rattle.rv64_select.specs.declared.references.Reference.{Reference}
 use Rattle.rv64_select.specs.Assembly.{assembly_of}
 use Rattle.rv64_select.specs.Code.{words_of, words_in, laid, blank, label_offset, unfilled}
 use Rattle.rv64_select.specs.Selected.{words_of_code, names_of_code, relocations_of_code, reference_of, references, names_of, relocation_of}
-use Rattle.rv64_select.specs.Versioned.{LabelBelow, SymbolFits, IsVersioned, bound_of}
+use Rattle.rv64_select.specs.Items.{LabelBelow, SymbolFits}
+use Rattle.gimple_meaning.specs.Versioned.{IsVersioned, bound_of}
+use Rattle.rv64_select.proofs.FewSlots.{few_slots}
 use Rattle.rv64_select.proofs.Laying.{words-cons, length-laid, length-blank}
 use Rattle.rv64_select.proofs.Bounds.{assembly-short}
 use Rattle.rv64_select.proofs.Fits.{AllFit, assembly_fits, labels_below, references_fit, assembly_encodes}
@@ -22,7 +24,7 @@ use Rattle.rv64_select.proofs.Fits.{AllFit, assembly_fits, labels_below, referen
 
 pub whole_short : (f : VersionedFunction) (items : List Item) → IsVersioned f → items ≡ assembly_of f → 4 * words_in items ≤ 2 ^ 19
 whole_short f items h e =
-    let bound = assembly-short f h.slots in
+    let bound = assembly-short f (few_slots f h) in
     let limit = h.bound in
     let same = ap words_in e in
     omega (arith, bound, limit, same)
@@ -78,7 +80,7 @@ pub whole_bound : (f : VersionedFunction) (words : List ℕ) → IsVersioned f �
 unfolding words_of_code
 whole_bound f words h e =
     let items = assembly_of f in
-    let bound = assembly-short f h.slots in
+    let bound = assembly-short f (few_slots f h) in
     let long : length (unfilled items) ≡ words_in items = length-laid (blank (label_offset items)) (length-blank (label_offset items)) 0 items in
     omega (arith, bound, long, ap length e, length-map (unfilled items) word_of)
 

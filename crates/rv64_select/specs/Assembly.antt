@@ -17,6 +17,7 @@ use Rattle.gimple_ir.specs.declared.versioned.Pair.{Pair}
 use Rattle.gimple_ir.specs.declared.versioned.Step.{Step}
 use Rattle.gimple_ir.specs.declared.versioned.Step.TheVariants as steps
 use Rattle.gimple_ir.specs.declared.versioned.VersionedFunction.{VersionedFunction}
+use Rattle.gimple_meaning.specs.Versioned.{type_of, type_of_component, element_of}
 use Rattle.rv64_frame.specs.declared.layout.FrameLayout.{FrameLayout}
 use Rattle.rv64_frame.specs.Frames.{outgoing_slot, slot_in, return_in, incoming_in, frame_of}
 use Rattle.rv64_abi.specs.Registers.{ra, sp, t0, t1, t2, a0, a7}
@@ -45,16 +46,6 @@ set_in layout r component = store_slot r (slot_in layout component)
 abbrev pub assign_in : FrameLayout → ℕ → Option ℕ → List Instr
 assign_in layout r None = []
 assign_in layout r (Some component) = set_in layout r component
-
-abbrev pub type_of_component : VersionedFunction → ℕ → ScalarType
-type_of_component f component = unwrap_or (slice_get f.types component) types.Int
-
-abbrev pub type_of : VersionedFunction → Operand → ScalarType
-type_of f (operands.Component c) = type_of_component f c
-type_of f (operands.Literal v) = v.ty
-
-abbrev pub element_of : VersionedFunction → ℕ → ElementType
-element_of f array = option_map_or (λ a. a.element) (slice_get f.arrays array) elements.UnsignedChar
 
 -- ---- entry and return
 

@@ -2,6 +2,6 @@ pub mod Templates
 pub mod Operations
 pub mod Assembly
 pub mod Code
-pub mod Versioned
+pub mod Items
 pub mod Selected
 pub mod Placed

@@ -2,7 +2,7 @@
 ghost use Rattle.std.specs.Prelude.{◌≡◌, ◌*◌, ◌≤◌, ◌^◌, ℕ, IfOk, slice_index};
 ghost use Rattle.std.specs.List.{AllByRecursion};
 ghost use Rattle.rv64_select.specs.Code.{words_of, words_in, label_offset};
-ghost use Rattle.rv64_select.specs.Versioned.{LabelBelow};
+ghost use Rattle.rv64_select.specs.Items.{LabelBelow};
 
 use crate::item::Item;
 use gimple_ir::NoMemory;

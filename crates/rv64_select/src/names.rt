@@ -4,7 +4,7 @@ ghost use Rattle.std.specs.List.{AllByRecursion};
 ghost use Rattle.std.specs.Str.{bytes_eq};
 ghost use Rattle.gimple_ir.specs.Names.{IsName};
 ghost use Rattle.rv64_select.specs.Code.{symbol_name};
-ghost use Rattle.rv64_select.specs.Versioned.{SymbolFits};
+ghost use Rattle.rv64_select.specs.Items.{SymbolFits};
 ghost use Rattle.rv64_select.specs.Selected.{with_name, names_of, place_of, relocation_of};
 ghost use Rattle.rv64_select.specs.Placed.{IsPlaced};
 

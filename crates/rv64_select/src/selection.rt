@@ -4,7 +4,7 @@ ghost use Rattle.elf_container.specs.Relocatable.{relocs_from, named_in_order};
 ghost use Rattle.gimple_ir.specs.Names.{repeats};
 ghost use Rattle.rv64_frame.specs.Frames.{frame_of};
 ghost use Rattle.rv64_select.specs.Selected.{words_of_code, names_of_code, relocations_of_code};
-ghost use Rattle.rv64_select.specs.Versioned.{IsVersioned, bound_of};
+ghost use Rattle.gimple_meaning.specs.Versioned.{IsVersioned, bound_of};
 
 use crate::labels::label_offsets;
 use crate::names::named;

@@ -7,8 +7,9 @@ ghost use Rattle.rv64_isa.specs.declared.instr.Instr.TheVariants.{Addi, Ecall};
 ghost use Rattle.rv64_select.specs.declared.item.Symbol.TheVariants as symbols;
 ghost use Rattle.rv64_select.specs.declared.item.Item.TheVariants as item;
 ghost use Rattle.rv64_select.specs.Operations.{branch, unary_operation, conversion, operation};
-ghost use Rattle.rv64_select.specs.Assembly.{plain, operand_in, set_in, type_of_component, type_of, element_of, binding_items, bindings_items, entry_items, return_items, case_items, pair_items, argument_items, address_items, step_items, assembly_of};
-ghost use Rattle.rv64_select.specs.Versioned.{ComponentFits, OperandFits, ArrayFits, StepFits, IsVersioned};
+ghost use Rattle.gimple_meaning.specs.Versioned.{type_of_component, type_of, element_of};
+ghost use Rattle.rv64_select.specs.Assembly.{plain, operand_in, set_in, binding_items, bindings_items, entry_items, return_items, case_items, pair_items, argument_items, address_items, step_items, assembly_of};
+ghost use Rattle.gimple_meaning.specs.Versioned.{ComponentFits, OperandFits, ArrayFits, StepFits, IsVersioned};
 
 use crate::constants::{machine_form, put_all, put_constant};
 use crate::item::{Item, Symbol};

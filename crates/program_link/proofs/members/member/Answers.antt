@@ -7,7 +7,7 @@ use Rattle.gimple_ir.specs.declared.unit.Member.{Member}
 use Rattle.func_summary.proofs.Checked.{place_inside}
 use Rattle.ipa_transform.specs.Versioned.{versioned_of}
 use Rattle.ipa_transform.specs.Members.{IsMember}
-use Rattle.rv64_select.specs.Versioned.{IsVersioned}
+use Rattle.gimple_meaning.specs.Versioned.{IsVersioned}
 use Rattle.program_link.specs.Versions.{array_use, call_use}
 use Rattle.program_link.proofs.VersionFacts.{facts_at, version_facts}
 use Rattle.program_link.proofs.Fitting.{member_fits, version_fits}

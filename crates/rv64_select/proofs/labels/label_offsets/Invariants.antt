@@ -1,7 +1,7 @@
 use Rattle.std.proofs.Common.{◌≡◌, ℕ, ◌+◌, ◌*◌, ◌≤◌, ◌^◌, drop, slice_index, vec_len}
 use Rattle.std.specs.List.{AllByRecursion}
 use Rattle.rv64_select.specs.Code.{words_in, label_from, label_offset}
-use Rattle.rv64_select.specs.Versioned.{LabelBelow}
+use Rattle.rv64_select.specs.Items.{LabelBelow}
 use Rattle.rv64_select.proofs.labels.label_offsets.Given as goal
 
 -- the offsets so far, and those of the labels among the rest, are those of all

@@ -4,7 +4,7 @@ use Rattle.elf_container.specs.declared.relocatable.Reloc.{Reloc}
 use Rattle.rv64_select.specs.declared.item.Symbol.TheVariants as symbols
 use Rattle.rv64_select.specs.declared.references.Reference.{Reference}
 use Rattle.rv64_select.specs.Code.{symbol_name}
-use Rattle.rv64_select.specs.Versioned.{SymbolFits}
+use Rattle.rv64_select.specs.Items.{SymbolFits}
 use Rattle.rv64_select.specs.Selected.{with_name, with_reference, names_of, place_of, relocation_of}
 use Rattle.rv64_select.proofs.Naming.{relocation_kept, drop_more, with_short}
 use Rattle.rv64_select.proofs.names.named.Goals as goal

@@ -1,6 +1,6 @@
 use Rattle.std.proofs.Common.{◌≡◌, ◌≤◌, ◌++◌, length, map, drop, fold}
 use Rattle.std.specs.List.{AllByRecursion}
-use Rattle.rv64_select.specs.Versioned.{SymbolFits}
+use Rattle.rv64_select.specs.Items.{SymbolFits}
 use Rattle.rv64_select.specs.Selected.{with_reference, names_of, relocation_of}
 use Rattle.rv64_select.specs.Placed.{IsPlaced}
 use Rattle.rv64_select.proofs.names.named.Given as goal

@@ -1,15 +1,28 @@
--- What is asked of a version of a function: its numbers name what is there, its frame has few slots, and its code bound is in its limit.
-use Rattle.std.specs.Prelude.{ℕ, ◌+◌, ◌*◌, ◌^◌, ◌<◌, ◌≤◌, length, sum_by, Option, Some, None, All}
+-- Versions of functions: the types of what their steps name, and what is asked of one. Its numbers name what is there, it has few
+-- components and passes few arguments, and its code bound is in its limit.
+use Rattle.std.specs.Prelude.{ℕ, ◌+◌, ◌*◌, ◌^◌, ◌<◌, ◌≤◌, max, List, [], ◌∷◌, length, slice_get, unwrap_or, sum_by, Option, Some, None, All}
+use Rattle.std.specs.Option.{option_map_or}
+use Rattle.gimple_ir.specs.declared.types.ScalarType.{ScalarType}
+use Rattle.gimple_ir.specs.declared.types.ScalarType.TheVariants as types
+use Rattle.gimple_ir.specs.declared.types.ElementType.{ElementType}
+use Rattle.gimple_ir.specs.declared.types.ElementType.TheVariants as elements
 use Rattle.gimple_ir.specs.declared.types.Operand.{Operand}
 use Rattle.gimple_ir.specs.declared.types.Operand.TheVariants as operands
 use Rattle.gimple_ir.specs.declared.versioned.Step.{Step}
 use Rattle.gimple_ir.specs.declared.versioned.Step.TheVariants.{Label, Goto, Cond, Switch, Return, Copies, Unary, Convert, Binary, Load, Store, Call, Putchar, Getchar, Exit}
 use Rattle.gimple_ir.specs.declared.versioned.VersionedFunction.{VersionedFunction}
-use Rattle.rv64_frame.specs.Frames.{HasFewSlots}
-use Rattle.rv64_select.specs.declared.item.Symbol.{Symbol}
-use Rattle.rv64_select.specs.declared.item.Symbol.TheVariants as symbols
-use Rattle.rv64_select.specs.declared.item.Item.{Item}
-use Rattle.rv64_select.specs.declared.item.Item.TheVariants as item
+
+-- ---- types
+
+abbrev pub type_of_component : VersionedFunction → ℕ → ScalarType
+type_of_component f component = unwrap_or (slice_get f.types component) types.Int
+
+abbrev pub type_of : VersionedFunction → Operand → ScalarType
+type_of f (operands.Component c) = type_of_component f c
+type_of f (operands.Literal v) = v.ty
+
+abbrev pub element_of : VersionedFunction → ℕ → ElementType
+element_of f array = option_map_or (λ a. a.element) (slice_get f.arrays array) elements.UnsignedChar
 
 -- ---- the code bound
 
@@ -70,21 +83,20 @@ StepFits f (Getchar to) = TargetFits f to
 StepFits f (Exit a) = OperandFits f a
 StepFits f _ = Unit {0}
 
--- ---- items
-
-abbrev pub LabelBelow : ℕ → Item → Type 0
-LabelBelow labels (item.Label l) = l < labels
-LabelBelow labels _ = Unit {0}
-
-abbrev pub SymbolFits : VersionedFunction → Symbol → Type 0
-SymbolFits f (symbols.Target call) = call < length f.calls
-SymbolFits f (symbols.Array array) = ArrayFits f array
-SymbolFits f _ = Unit {0}
-
 -- ---- functions
 
--- what `code` asks for
+-- how many arguments a step passes
+abbrev pub passed_in : Step → ℕ
+passed_in (Call to call args) = length args
+passed_in _ = 0
+
+-- the largest number of arguments that a step passes
+abbrev pub most_passed : List Step → ℕ
+most_passed [] = 0
+most_passed (s ∷ ss) = max (passed_in s) (most_passed ss)
+
 pub record IsVersioned (f : VersionedFunction) : Type 0 where
-  pub slots : HasFewSlots f
+  pub components : length f.types ≤ 1024
+  pub arguments : most_passed f.body ≤ 64
   pub steps : All (StepFits f) f.body
   pub bound : bound_of f ≤ 2 ^ 19

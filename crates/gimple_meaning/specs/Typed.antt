@@ -14,9 +14,9 @@ use Rattle.gimple_ir.specs.declared.versioned.Step.TheVariants.{Label, Cond, Swi
 use Rattle.gimple_ir.specs.declared.versioned.VersionedFunction.{VersionedFunction}
 use Rattle.gimple_meaning.specs.Acts.{cell}
 use Rattle.gimple_meaning.specs.Steps.{place_of}
-use Rattle.rv64_select.specs.Assembly.{type_of, type_of_component, element_of}
-use Rattle.rv64_select.specs.Versioned.{IsVersioned}
-use Rattle.machine_laws.specs.Linked.{LinkedProgram, callee_number}
+use Rattle.gimple_meaning.specs.Versioned.{type_of, type_of_component, element_of}
+use Rattle.gimple_meaning.specs.Versioned.{IsVersioned}
+use Rattle.gimple_meaning.specs.Linked.{LinkedProgram, callee_number}
 
 -- ---- components
 

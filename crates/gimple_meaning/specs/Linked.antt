@@ -7,7 +7,8 @@ use Rattle.gimple_ir.specs.declared.types.ScalarType.{ScalarType}
 use Rattle.gimple_ir.specs.declared.versioned.Step.{Step}
 use Rattle.gimple_ir.specs.declared.versioned.Step.TheVariants.{Load, Store}
 use Rattle.gimple_ir.specs.declared.versioned.VersionedFunction.{VersionedFunction}
-use Rattle.gimple_meaning.specs.Systems.{System, Frame, Machine}
+use Rattle.gimple_meaning.specs.Systems.{System, Frame, Machine, State, start_in}
+use Rattle.gimple_meaning.specs.Run.{run}
 use Rattle.gimple_meaning.specs.Steps.{Code, Codes, system_of}
 
 pub record LinkedProgram : Type 0 where
@@ -62,3 +63,13 @@ steps_left_in p (frame ∷ older) = option_map_or (λ f. length f.body - frame.p
 
 abbrev pub steps_left : LinkedProgram → Machine → ℕ
 steps_left p q = steps_left_in p q.frames
+
+-- ---- runs
+
+-- one frame, of the first function, at its first step
+abbrev pub linked_start : LinkedProgram → List ℕ → State
+linked_start p input = start_in (linked_system p) p.arrays p.main input
+
+-- on an input, after at most n steps
+abbrev pub linked_run : LinkedProgram → List ℕ → ℕ → State
+linked_run p input n = run (linked_system p) (linked_start p input) n

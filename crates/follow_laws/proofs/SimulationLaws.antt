@@ -3,7 +3,7 @@ use Rattle.std.proofs.Common.{◌≡◌, ℕ, suc, ◌+◌, List, refl, sym, ap,
 use Rattle.gimple_meaning.specs.Systems.{System, Machine, State, Undefined, step}
 use Rattle.gimple_meaning.specs.Systems as program
 use Rattle.gimple_meaning.specs.Run.{run}
-use Rattle.gimple_meaning.specs.Shown.{Goes, Ends}
+use Rattle.gimple_meaning.specs.Shown.{Goes}
 use Rattle.gimple_meaning.specs.Lower.{Lower, Extends, IsSteady, Moves, Works, Rests, Answers}
 use Rattle.gimple_meaning.specs.Lower as lower
 use Rattle.gimple_meaning.proofs.Simulations.{simulation_follows}

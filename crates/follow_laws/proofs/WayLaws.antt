@@ -1,5 +1,5 @@
 -- The machine's ways from state to state.
-use Rattle.std.proofs.Common.{◌≡◌, ℕ, suc, ◌+◌, ◌-◌, ◌≤◌, List, [], ◌∷◌, ◌++◌, length, Some, refl, ap, ◌∙◌, subst, arith, append_assoc, ◌*◌}
+use Rattle.std.proofs.Common.{◌≡◌, ℕ, suc, ◌+◌, List, [], ◌∷◌, ◌++◌, length, Some, refl, ap, ◌∙◌, subst, arith, ◌*◌}
 use Rattle.rv64_isa.specs.declared.instr.Instr.{Instr}
 use Rattle.rv64_meaning.specs.Machine.{Segments, State, Go, Standing, At, effect, fetch, step, follow, after}
 use Rattle.rv64_meaning.proofs.RunLaws.{after-add}

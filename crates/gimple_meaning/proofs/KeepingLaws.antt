@@ -1,8 +1,6 @@
 -- A run follows what it keeps, keeping composes, and systems that run in lock-step keep what their tie says.
-use Rattle.std.proofs.Common.{◌≡◌, ℕ, List, [], ◌∷◌, ◌++◌, Bool, true, false, true≢false, Some, refl, sym, ap, ap₂, ◌∙◌, subst}
+use Rattle.std.proofs.Common.{◌≡◌, ℕ, List, [], ◌∷◌, ◌++◌, Bool, true, false, true≢false, refl, sym, ap, ap₂, ◌∙◌}
 use Rattle.std.specs.Prelude.{◌&&◌}
-use Rattle.gimple_ir.specs.declared.types.Value.{Value}
-use Rattle.gimple_meaning.specs.Acts.{cell}
 use Rattle.gimple_meaning.specs.Systems.{System, Frame, Machine, State, Running, Ended, Undefined}
 use Rattle.gimple_meaning.specs.Run.{run}
 use Rattle.gimple_meaning.specs.Laws.{Grows}

@@ -1,7 +1,7 @@
 -- What follows what follows a run follows the run.
 use Rattle.std.proofs.Common.{ℕ, List, ◌++◌, ap, ◌∙◌, subst, append_assoc}
 use Rattle.gimple_meaning.specs.Laws.{Grows}
-use Rattle.gimple_meaning.specs.Shown.{Shown, Goes, Ends, Fails, Covers, RunFollows, FollowsOn}
+use Rattle.gimple_meaning.specs.Shown.{Shown, Goes, Ends, Fails, Covers, FollowsOn}
 
 grows_on : (xs ys zs : List ℕ) → Grows xs ys → Grows ys zs → Grows xs zs
 grows_on xs ys zs (a, p) (b, q) = (a ++ b, q ∙ ap (λ l. l ++ b) p ∙ append_assoc xs a b)

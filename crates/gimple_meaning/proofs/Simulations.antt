@@ -1,11 +1,11 @@
 -- A machine whose states stay related to a program's follows it.
-use Rattle.std.proofs.Common.{◌≡◌, ℕ, zero, suc, ◌+◌, ◌-◌, ◌<◌, ◌≤◌, List, ◌++◌, inl, inr, refl, sym, ap, ◌∙◌, subst, arith, append_assoc}
+use Rattle.std.proofs.Common.{◌≡◌, ℕ, zero, suc, ◌+◌, ◌-◌, ◌≤◌, List, ◌++◌, inl, inr, refl, sym, ap, ◌∙◌, subst, arith, append_assoc}
 use Rattle.std.proofs.lemmas.Bool.{cases_lt}
 use Rattle.gimple_meaning.specs.Laws.{Grows}
 use Rattle.gimple_meaning.specs.Systems.{System, Machine, State, Running, Ended, Undefined, step}
 use Rattle.gimple_meaning.specs.Run.{run}
 use Rattle.gimple_meaning.specs.Shown.{Shown, Goes, Ends, Fails, shown_of, Covers, RunFollows}
-use Rattle.gimple_meaning.specs.Lower.{Lower, Extends, IsSteady, Comes, Leads, EndsWith, Moves, Works, Rests, Answers, Simulates}
+use Rattle.gimple_meaning.specs.Lower.{Lower, Extends, IsSteady, Comes, Leads, EndsWith, Works, Rests, Answers, Simulates}
 use Rattle.gimple_meaning.proofs.RunLaws.{run-add, stays}
 
 -- ---- what is covered
@@ -76,9 +76,11 @@ module _ (low : Lower) (steady : IsSteady low) where
     goes_on = λ n output e. let b = f.goes_on n output e in (c.steps + b.0, shown_on s t c.steps b.0 c.there ∙ b.1);
     ends = λ n status output e. let b = f.ends n status output e in (c.steps + b.0, shown_on s t c.steps b.0 c.there ∙ b.1);
     no_more = λ j.
-        let b = f.no_more j in
-        (b.0, covers_before (low.shows (low.after j s)) (low.shows (low.after j t)) (runs b.0)
-            (subst (λ x. Extends (low.shows (low.after j s)) x) (shown_on s t c.steps j c.there) (later j (c.steps + j) s (omega arith))) b.1);
+        let b = f.no_more j in (
+          b.0,
+          covers_before (low.shows (low.after j s)) (low.shows (low.after j t)) (runs b.0)
+              (subst (λ x. Extends (low.shows (low.after j s)) x) (shown_on s t c.steps j c.there) (later j (c.steps + j) s (omega arith))) b.1,
+        );
   }
 
 -- ---- the simulation

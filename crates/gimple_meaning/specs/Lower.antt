@@ -1,6 +1,6 @@
 -- Any machine on which a program may be followed: where it comes in so many steps, and what it shows there. It does the same whenever
 -- it is run; what it shows at its end it shows for good, and its output only grows.
-use Rattle.std.specs.Prelude.{◌≡◌, ℕ, zero, suc, ◌+◌, ◌<◌, List}
+use Rattle.std.specs.Prelude.{◌≡◌, ℕ, suc, ◌+◌, ◌<◌, List}
 use Rattle.gimple_meaning.specs.Laws.{Grows}
 use Rattle.gimple_meaning.specs.Systems.{System, Machine, State, Running, Ended, Undefined, step}
 use Rattle.gimple_meaning.specs.Shown.{Shown, Goes, Ends, Fails}

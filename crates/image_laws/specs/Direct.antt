@@ -1,8 +1,7 @@
 -- The image of a plan with no relocation in it, as what the machine's memory has of a whole program: its parts, the program that its
 -- symbols name, and where that lies.
-use Rattle.std.specs.Prelude.{◌≡◌, ℕ, ◌+◌, ◌^◌, ◌≤◌, true, false, List, [], ◌∷◌, ◌++◌, length, map, All, Some, None, IsSome, slice_get, nat_eq}
-use Rattle.std.specs.List.{find, flat_map, list_any, position_or_len}
-use Rattle.std.specs.Str.{bytes_eq}
+use Rattle.std.specs.Prelude.{◌≡◌, ℕ, ◌+◌, ◌^◌, ◌≤◌, true, false, List, [], ◌∷◌, ◌++◌, map, All, Some, None, IsSome, slice_get, nat_eq}
+use Rattle.std.specs.List.{find, flat_map, list_any}
 use Rattle.gimple_ir.specs.Names.{repeats}
 use Rattle.gimple_ir.specs.Programs.{IsProgramArray}
 use Rattle.gimple_ir.specs.declared.types.ScalarType.{ScalarType}
@@ -16,7 +15,6 @@ use Rattle.rv64_meaning.specs.Loading.{segments_of, load_fault_of}
 use Rattle.gimple_meaning.specs.Versioned.{IsVersioned}
 use Rattle.rv64_select.specs.Code.{code_of}
 use Rattle.final_link.specs.Stubs.{start_address, functions_address}
-use Rattle.final_link.specs.Names.{value_of}
 use Rattle.final_link.specs.Arrays.{size_of, bytes_of, array_symbol, stored_arrays, zeroed_arrays}
 use Rattle.final_link.specs.Symbols.{end_of, arrays_in_order}
 use Rattle.final_link.specs.Placing.{is_first_of, main_address}

@@ -1,15 +1,13 @@
 -- The example plan keeps to the rules: each is computed.
-use Rattle.std.proofs.Common.{◌≡◌, ◌<◌, ◌≤◌, ℕ, zero, suc, List, [], ◌∷◌, Bool, true, false, true≢false, Some, None, refl, sym, ap, ◌∙◌, subst, arith}
-use Rattle.std.specs.Prelude.{All, Option, slice_get, IsSomeAnd}
-use Rattle.std.specs.List.Sorted.{IsStrictlyIncreasing}
+use Rattle.std.proofs.Common.{◌≡◌, ◌<◌, ℕ, zero, suc, [], ◌∷◌, Bool, true, false, true≢false, Some, refl, sym, ap, ◌∙◌, subst, arith}
+use Rattle.std.specs.Prelude.{slice_get}
 use Rattle.std.proofs.lemmas.Option.{none-some, same_Some}
 use Rattle.std.proofs.lemmas.List.Elements.{All-nil, All-cons}
 use Rattle.gimple_ir.specs.Values.{IsValue}
-use Rattle.gimple_ir.specs.declared.types.ScalarType.{ScalarType}
 use Rattle.gimple_ir.specs.declared.types.ScalarType.TheVariants.{Int}
 use Rattle.gimple_ir.specs.declared.types.Value.{Value}
 use Rattle.gimple_ir.specs.declared.lattice.Lattice.{Lattice}
-use Rattle.gimple_ir.specs.declared.lattice.Lattice.TheVariants.{Top, Const, Bottom}
+use Rattle.gimple_ir.specs.declared.lattice.Lattice.TheVariants.{Const, Bottom}
 use Rattle.gimple_ir.specs.declared.summary.JumpFunction.TheVariants as jump
 use Rattle.gimple_ir.specs.declared.summary.EdgeArg.{EdgeArg}
 use Rattle.gimple_ir.specs.declared.summary.Edge.{Edge}
@@ -17,7 +15,7 @@ use Rattle.gimple_ir.specs.declared.summary.ParamFacts.{ParamFacts}
 use Rattle.gimple_ir.specs.declared.plan.CallPlan.{CallPlan}
 use Rattle.gimple_ir.specs.declared.plan.Version.{Version}
 use Rattle.ipa_plan.specs.Vectors.{lattice_at, jump_under}
-use Rattle.ipa_plan.specs.Rules.{Choice, IsCallOf, IsRoot, IsVersionIn, IsBefore, IsOrdered, IsPlanned}
+use Rattle.ipa_plan.specs.Rules.{Choice, IsCallOf, IsVersionIn, IsBefore, IsOrdered}
 use Rattle.ipa_plan.specs.Example.{int, argument, call_of_f, main_version, f_version, constant_version, merged, plan, ExamplePlanned}
 
 -- all components of main, and the first of f; the result of main alone

@@ -3,7 +3,7 @@
 --
 --     static int f (int a, int b) { putchar (a); return 0; }
 --     int main () { f (3, 7); f (getchar (), 8); return 0; }
-use Rattle.std.specs.Prelude.{ℕ, pos, List, [], ◌∷◌, Some, None, Bool, true, false, codes}
+use Rattle.std.specs.Prelude.{ℕ, pos, List, [], ◌∷◌, None, Bool, true, false, codes}
 use Rattle.gimple_ir.specs.declared.types.ScalarType.{ScalarType}
 use Rattle.gimple_ir.specs.declared.types.ScalarType.TheVariants.{Int}
 use Rattle.gimple_ir.specs.declared.types.ResultType.TheVariants as returned
@@ -18,7 +18,6 @@ use Rattle.gimple_ir.specs.declared.summary.ParamFacts.{ParamFacts}
 use Rattle.gimple_ir.specs.declared.summary.Summary.{Summary}
 use Rattle.gimple_ir.specs.declared.merged.Merged.{Merged}
 use Rattle.gimple_ir.specs.declared.merged.MergedFunction.{MergedFunction}
-use Rattle.gimple_ir.specs.declared.plan.CallPlan.{CallPlan}
 use Rattle.gimple_ir.specs.declared.plan.Version.{Version}
 use Rattle.gimple_ir.specs.declared.plan.Plan.{Plan}
 use Rattle.ipa_plan.specs.Rules.{symbol_of, IsPlanned}

@@ -16,10 +16,10 @@ use Rattle.follow_laws.specs.Follows.{shown_by, Follows}
 use Rattle.program_link.specs.Versions.{functions_of}
 use Rattle.program_link.specs.Linking.{limits_of, first_passed}
 use Rattle.machine_laws.specs.Starts.{MachineFollows}
-use Rattle.lowering_laws.specs.States.{versions_view}
+use Rattle.version_laws.specs.States.{versions_view}
 use Rattle.gimple_meaning.specs.Linked.{linked_run}
-use Rattle.lowering_laws.specs.Linked.{result_type_of, linked}
-use Rattle.lowering_laws.specs.Laws.{VersionsLaw, TypedLaw}
+use Rattle.version_laws.specs.Linked.{result_type_of, linked}
+use Rattle.version_laws.specs.Laws.{VersionsLaw, TypedLaw}
 use Rattle.image_laws.specs.Direct.{IsDirect, layout_of, DirectLoads, DirectIsPlaced}
 use Rattle.image_laws.specs.Start.{StartIsAtStart}
 use Rattle.link_laws.specs.Laws.{LinkedLoads, LinkedFollows}

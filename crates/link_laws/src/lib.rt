@@ -8,9 +8,9 @@ ghost use Rattle.link_laws.specs.Laws.{LinkedLoads, LinkedFollows};
 use gimple_meaning::{following, keeping};
 use image_laws::{direct_images, starts};
 use ipa_plan::planned;
-use lowering_laws::{typed_versions, versions_keep};
 use machine_laws::machine_follows;
 use program_link::versioned;
+use version_laws::{typed_versions, versions_keep};
 
 /// The image of each whole program that passes no limit can be loaded, and does on every input what the program does.
 pub fn linked_image_follows()

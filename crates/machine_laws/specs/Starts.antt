@@ -1,9 +1,7 @@
 -- The start of an image's run, and that it follows its program.
 use Rattle.std.specs.Prelude.{◌≡◌, ℕ, List, [], slice_get, Some}
 use Rattle.gimple_ir.specs.declared.versioned.VersionedFunction.{VersionedFunction}
-use Rattle.gimple_meaning.specs.Systems.{first_arrays, start_in}
-use Rattle.gimple_meaning.specs.Systems as program
-use Rattle.gimple_meaning.specs.Run.{run}
+use Rattle.gimple_meaning.specs.Systems.{first_arrays}
 use Rattle.rv64_meaning.specs.Machine.{Segments, State, exec}
 use Rattle.final_link.specs.Stubs.{start_address, start_stub}
 use Rattle.gimple_meaning.specs.Shown.{shown_of, RunFollows}

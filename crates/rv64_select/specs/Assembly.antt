@@ -1,13 +1,9 @@
 -- The step table: the code of each step as items, in which labels and symbols stand by name, and no address is needed.
-use Rattle.std.specs.Prelude.{ℕ, ◌+◌, pos, neg_ℤ, List, [], ◌∷◌, ◌++◌, map, Option, Some, None, slice_get, unwrap_or}
-use Rattle.std.specs.Option.{option_map_or}
+use Rattle.std.specs.Prelude.{ℕ, ◌+◌, pos, neg_ℤ, List, [], ◌∷◌, ◌++◌, map, Option, Some, None}
 use Rattle.std.specs.List.{flat_map}
 use Rattle.rv64_isa.specs.declared.instr.Instr.{Instr}
 use Rattle.rv64_isa.specs.declared.instr.Instr.TheVariants.{Jalr, Addi, Add, Bne, Ecall}
-use Rattle.gimple_ir.specs.declared.types.ScalarType.{ScalarType}
-use Rattle.gimple_ir.specs.declared.types.ScalarType.TheVariants as types
 use Rattle.gimple_ir.specs.declared.types.ElementType.{ElementType}
-use Rattle.gimple_ir.specs.declared.types.ElementType.TheVariants as elements
 use Rattle.gimple_ir.specs.declared.types.Operand.{Operand}
 use Rattle.gimple_ir.specs.declared.types.Operand.TheVariants as operands
 use Rattle.gimple_ir.specs.declared.types.Case.{Case}

@@ -1,4 +1,4 @@
-use Rattle.std.proofs.Common.{ℕ, ◌≤◌, length}
+use Rattle.std.proofs.Common.{◌≤◌, length}
 use Rattle.gimple_meaning.specs.Tables.{ArePlaces}
 use Rattle.gimple_meaning.proofs.layout.label_places.Given as goal
 

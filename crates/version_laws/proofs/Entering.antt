@@ -1,9 +1,9 @@
 -- The new frames of a call: where a version is called, its frame stands for that of its function.
-use Rattle.std.proofs.Common.{◌≡◌, ◌+◌, ◌-◌, ◌<◌, ◌≤◌, ◌++◌, ℕ, List, [], ◌∷◌, length, map, replicate, Bool, true, false, true≢false, Some, None, refl, sym, ap, ap₂, ◌∙◌, subst, arith, length-append}
-use Rattle.std.specs.Prelude.{All, Option, not, slice_get, option_map, option_and_then, nat_eq}
+use Rattle.std.proofs.Common.{◌≡◌, ◌+◌, ◌-◌, ◌<◌, ◌++◌, ℕ, List, length, map, replicate, true, false, true≢false, Some, None, refl, sym, ap, ◌∙◌, subst, arith, length-append}
+use Rattle.std.specs.Prelude.{All, Option, not, slice_get, option_and_then, nat_eq}
 use Rattle.std.specs.List.{flat_map, list_all, zip}
 use Rattle.std.specs.Option.{option_map_or}
-use Rattle.std.proofs.lemmas.Option.{none-some, same_Some, slice_get-map, slice_get_within}
+use Rattle.std.proofs.lemmas.Option.{none-some, same_Some}
 use Rattle.std.proofs.lemmas.List.{length-map, length-replicate}
 use Rattle.std.proofs.lemmas.List.Concat.{length-flat_map}
 use Rattle.gimple_ir.specs.declared.types.ScalarType.{ScalarType}
@@ -27,7 +27,7 @@ use Rattle.gimple_ir.specs.CodeBound.{components_in, parameter_components}
 use Rattle.gimple_ir.specs.Statements.{argument_fits, arguments_fit, result_fits, type_of_call}
 use Rattle.gimple_ir.specs.Programs.{IsProgramFunction, scope_of}
 use Rattle.gimple_meaning.specs.Acts.{cell, value_at}
-use Rattle.gimple_meaning.specs.Systems.{Frame, fresh}
+use Rattle.gimple_meaning.specs.Systems.{fresh}
 use Rattle.gimple_meaning.specs.Source.{operands_of, taken, begun, source_of}
 use Rattle.gimple_meaning.specs.Steps.{Code, bound_by, bound, opened, opened_by}
 use Rattle.func_summary.specs.JumpFunctions.{jump_of}
@@ -40,18 +40,18 @@ use Rattle.program_link.specs.Versions.{version_in}
 use Rattle.program_link.proofs.Facts.{same_number}
 use Rattle.program_link.proofs.VersionFacts.{VersionFacts}
 use Rattle.gimple_meaning.specs.Linked.{linked_code, linked_system}
-use Rattle.lowering_laws.specs.States.{is_alive}
-use Rattle.lowering_laws.specs.Linked.{linked}
-use Rattle.lowering_laws.proofs.Lists.{there, mapped_at}
-use Rattle.lowering_laws.proofs.Bindings.{binding_says, kept_below, picked_at}
-use Rattle.lowering_laws.proofs.Standing.{version_at, standing, version_same}
-use Rattle.lowering_laws.proofs.Bodies.{types_same}
-use Rattle.lowering_laws.proofs.Uses.{code_at, CallKnown}
-use Rattle.lowering_laws.proofs.Cells.{length-taken, cell-taken, cell-opened, cell-passed}
-use Rattle.lowering_laws.proofs.Knowing.{Knows, Holds, JumpGives, argument_gives, knows_entry, jump_holds}
-use Rattle.lowering_laws.proofs.Reading.{AliveOperand, argument_of, argument_at, passed_alive}
-use Rattle.lowering_laws.proofs.Stepping.{arguments_count}
-use Rattle.lowering_laws.proofs.Frames.{CellsAlike, reads_alike, VersionFrames}
+use Rattle.version_laws.specs.States.{is_alive}
+use Rattle.version_laws.specs.Linked.{linked}
+use Rattle.version_laws.proofs.Lists.{there, mapped_at}
+use Rattle.version_laws.proofs.Bindings.{binding_says, kept_below, picked_at}
+use Rattle.version_laws.proofs.Standing.{version_at, standing, version_same}
+use Rattle.version_laws.proofs.Bodies.{types_same}
+use Rattle.version_laws.proofs.Uses.{CallKnown}
+use Rattle.version_laws.proofs.Cells.{length-taken, cell-taken, cell-opened, cell-passed}
+use Rattle.version_laws.proofs.Knowing.{Knows, Holds, argument_gives, knows_entry, jump_holds}
+use Rattle.version_laws.proofs.Reading.{AliveOperand, argument_of, argument_at, passed_alive}
+use Rattle.version_laws.proofs.Stepping.{arguments_count}
+use Rattle.version_laws.proofs.Frames.{CellsAlike, reads_alike, VersionFrames}
 
 -- ---- the components of a new frame
 

@@ -28,10 +28,10 @@ use Rattle.program_link.specs.Versions.{version_in, functions_of}
 use Rattle.program_link.proofs.Facts.{same_number}
 use Rattle.program_link.proofs.SymbolLaws.{behind, behind_array, same_version}
 use Rattle.program_link.proofs.SymbolLaws.{same_number as same_decimal}
-use Rattle.lowering_laws.specs.States.{function_of_version}
-use Rattle.lowering_laws.specs.Linked.{linked}
-use Rattle.lowering_laws.proofs.Lists.{there, mapped_at, from_mapped, first_passing}
-use Rattle.lowering_laws.proofs.Standing.{standing}
+use Rattle.version_laws.specs.States.{function_of_version}
+use Rattle.version_laws.specs.Linked.{linked}
+use Rattle.version_laws.proofs.Lists.{there, mapped_at, from_mapped, first_passing}
+use Rattle.version_laws.proofs.Standing.{standing}
 
 -- ---- functions
 

@@ -1,5 +1,5 @@
 -- What a whole program is linked as under a plan: the plan's versions, and what each gives.
-use Rattle.std.specs.Prelude.{ℕ, List, slice_get}
+use Rattle.std.specs.Prelude.{ℕ, slice_get}
 use Rattle.std.specs.Option.{option_map_or}
 use Rattle.gimple_ir.specs.declared.types.ScalarType.{ScalarType}
 use Rattle.gimple_ir.specs.declared.types.ScalarType.TheVariants.{Int}
@@ -11,7 +11,7 @@ use Rattle.gimple_ir.specs.declared.merged.Merged.{Merged}
 use Rattle.program_link.specs.Versions.{functions_of}
 use Rattle.gimple_meaning.specs.Linked.{LinkedProgram}
 use Rattle.machine_laws.specs.Plans.{linked_of}
-use Rattle.lowering_laws.specs.States.{function_of_version}
+use Rattle.version_laws.specs.States.{function_of_version}
 
 -- a function that gives nothing has no use of a type
 abbrev pub given_type : ResultType → ScalarType

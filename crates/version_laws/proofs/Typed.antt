@@ -1,5 +1,5 @@
 -- The versions of a plan are a well formed program of versions.
-use Rattle.std.proofs.Common.{◌≡◌, ◌≢◌, ◌+◌, ◌<◌, ◌≤◌, ℕ, zero, suc, List, [], ◌∷◌, length, take, Bool, true, false, true≢false, Some, None, refl, sym, ap, ◌∙◌, subst, arith}
+use Rattle.std.proofs.Common.{◌≡◌, ◌≢◌, ◌<◌, ◌≤◌, ℕ, zero, suc, List, [], ◌∷◌, length, take, Bool, true, false, true≢false, Some, None, refl, sym, ap, ◌∙◌, subst, arith}
 use Rattle.std.specs.Prelude.{All, Option, if◌then◌else◌, IsSomeAnd, slice_get, option_map, nat_eq}
 use Rattle.std.specs.List.{flat_map, list_all, zip}
 use Rattle.std.specs.Option.{option_map_or, option_and_then}
@@ -28,7 +28,7 @@ use Rattle.gimple_ir.specs.declared.versioned.Pair.{Pair}
 use Rattle.gimple_ir.specs.declared.versioned.Step.{Step}
 use Rattle.gimple_ir.specs.declared.versioned.Step.TheVariants as form
 use Rattle.gimple_ir.specs.declared.versioned.VersionedFunction.{VersionedFunction}
-use Rattle.gimple_ir.specs.CodeBound.{components_in, parameter_components}
+use Rattle.gimple_ir.specs.CodeBound.{components_in}
 use Rattle.gimple_ir.specs.Values.{IsValue}
 use Rattle.gimple_ir.specs.Statements.{component_types, is_comparison, alike, is_void, argument_fits, arguments_fit, knows, knows_component, knows_operand, knows_target, knows_function, knows_argument, knows_array, counts_arguments, types_fit, type_of_element, type_of_call, type_of_result, result_fits}
 use Rattle.gimple_ir.specs.Statements as source
@@ -45,18 +45,18 @@ use Rattle.program_link.specs.Versions.{member_of, version_in, functions_of}
 use Rattle.program_link.proofs.Facts.{three_true, same_number}
 use Rattle.gimple_meaning.specs.Linked.{callee_number}
 use Rattle.gimple_meaning.specs.Typed.{TargetTyped, ArgumentsTyped, StepTyped, FunctionTyped, ProgramTyped}
-use Rattle.lowering_laws.specs.States.{function_of_version}
-use Rattle.lowering_laws.specs.Linked.{result_type_of, linked}
-use Rattle.lowering_laws.proofs.Lists.{there, from_mapped}
+use Rattle.version_laws.specs.States.{function_of_version}
+use Rattle.version_laws.specs.Linked.{result_type_of, linked}
+use Rattle.version_laws.proofs.Lists.{there, from_mapped}
 use Rattle.program_link.proofs.VersionFacts.{VersionFacts}
-use Rattle.lowering_laws.proofs.Bindings.{binding_says}
-use Rattle.lowering_laws.proofs.Standing.{version_at, standing, version_same}
-use Rattle.lowering_laws.proofs.Named.{function_there, main_same}
-use Rattle.lowering_laws.proofs.Bodies.{calls_before, types_same, step_at, pairs_same}
-use Rattle.lowering_laws.proofs.Uses.{Known, CallKnown, known}
-use Rattle.lowering_laws.proofs.Labelled.{labels_once}
-use Rattle.lowering_laws.proofs.Typing.{component_type, alike_is, operands_alike, operand_type, copies_typed, front_types}
-use Rattle.lowering_laws.proofs.Stepping.{cases_typed, binary_typed, array_typed, given_is, result_is, target_typed, argument_values, passed_typed}
+use Rattle.version_laws.proofs.Bindings.{binding_says}
+use Rattle.version_laws.proofs.Standing.{version_at, standing, version_same}
+use Rattle.version_laws.proofs.Named.{function_there, main_same}
+use Rattle.version_laws.proofs.Bodies.{calls_before, types_same, step_at, pairs_same}
+use Rattle.version_laws.proofs.Uses.{Known, CallKnown, known}
+use Rattle.version_laws.proofs.Labelled.{labels_once}
+use Rattle.version_laws.proofs.Typing.{component_type, alike_is, operands_alike, operand_type, copies_typed, front_types}
+use Rattle.version_laws.proofs.Stepping.{cases_typed, binary_typed, array_typed, given_is, result_is, target_typed, argument_values, passed_typed}
 
 -- ---- main
 

@@ -1,9 +1,9 @@
 -- What a version's statements read is alive, and so is what its calls pass for a component that is needed.
-use Rattle.std.proofs.Common.{◌≡◌, ◌≢◌, ◌+◌, ◌<◌, ℕ, zero, suc, List, [], ◌∷◌, ◌++◌, length, map, Bool, true, false, true≢false, cond, Some, None, refl, sym, ap, ap₂, ◌∙◌, subst, arith}
-use Rattle.std.specs.Prelude.{Option, ◌&&◌, ◌||◌, not, filter, slice_get, option_map, nat_eq, nat_lt, if◌then◌else◌}
+use Rattle.std.proofs.Common.{◌≡◌, ◌+◌, ◌<◌, ℕ, zero, suc, List, [], ◌∷◌, ◌++◌, map, Bool, true, false, true≢false, cond, Some, None, refl, sym, ap, ap₂, ◌∙◌, subst, arith}
+use Rattle.std.specs.Prelude.{Option, ◌&&◌, ◌||◌, not, slice_get, nat_eq, if◌then◌else◌}
 use Rattle.std.specs.List.{flat_map, list_any, range_with_len}
 use Rattle.std.specs.Option.{option_map_or}
-use Rattle.std.proofs.lemmas.Option.{none-some, same_Some, slice_get-map, slice_get_within}
+use Rattle.std.proofs.lemmas.Option.{none-some, same_Some, slice_get_within}
 use Rattle.std.proofs.lemmas.Bool.Decides.{nat_tests}
 use Rattle.std.proofs.lemmas.List.{map-append}
 use Rattle.std.proofs.lemmas.List.Folds.{list_any-append}
@@ -33,10 +33,10 @@ use Rattle.func_summary.specs.Summaries as summaries
 use Rattle.func_summary.specs.Summaries.{place_of, operand_places, whole_places, place_of_field, places_of, places_naming, facts_of, is_used_here, params_of, component_argument, field_argument, edge_arguments}
 use Rattle.ipa_plan.specs.Rules.{Choice, is_dead, IsCallOf}
 use Rattle.program_link.proofs.VersionFacts.{VersionFacts}
-use Rattle.lowering_laws.specs.States.{is_alive}
-use Rattle.lowering_laws.proofs.Lists.{mapped_at, ranged}
-use Rattle.lowering_laws.proofs.Bindings.{Says, binding_says}
-use Rattle.lowering_laws.proofs.Bodies.{edge_with}
+use Rattle.version_laws.specs.States.{is_alive}
+use Rattle.version_laws.proofs.Lists.{mapped_at, ranged}
+use Rattle.version_laws.proofs.Bindings.{binding_says}
+use Rattle.version_laws.proofs.Bodies.{edge_with}
 
 -- ---- what is needed is alive
 

@@ -36,7 +36,7 @@ use Rattle.func_summary.proofs.Checked.{place_inside}
 use Rattle.ipa_plan.specs.Rules.{Choice, kept_from, IsCallOf}
 use Rattle.program_link.specs.Versions.{call_use}
 use Rattle.gimple_meaning.specs.Linked.{LinkedProgram, linked_step}
-use Rattle.lowering_laws.proofs.Lists.{there, mapped_at}
+use Rattle.version_laws.proofs.Lists.{there, mapped_at}
 use Rattle.program_link.proofs.VersionFacts.{VersionFacts}
 
 -- ---- places

@@ -27,12 +27,12 @@ use Rattle.program_link.specs.Versions.{array_use, call_use, member_of}
 use Rattle.program_link.proofs.Facts.{three_true}
 use Rattle.program_link.proofs.Uses.{use_found}
 use Rattle.gimple_meaning.specs.Linked.{linked_code, array_number}
-use Rattle.lowering_laws.specs.Linked.{linked}
-use Rattle.lowering_laws.proofs.Lists.{mapped_at}
+use Rattle.version_laws.specs.Linked.{linked}
+use Rattle.version_laws.proofs.Lists.{mapped_at}
 use Rattle.program_link.proofs.VersionFacts.{VersionFacts}
-use Rattle.lowering_laws.proofs.Standing.{version_at}
-use Rattle.lowering_laws.proofs.Named.{array_found, place_named}
-use Rattle.lowering_laws.proofs.Bodies.{calls_before, edge_with, call_stands}
+use Rattle.version_laws.proofs.Standing.{version_at}
+use Rattle.version_laws.proofs.Named.{array_found, place_named}
+use Rattle.version_laws.proofs.Bodies.{calls_before, edge_with, call_stands}
 
 abbrev pub code_at : Program → Merged → Plan → Version → Function → Code
 code_at p merged plan v f = linked_code (linked p merged plan) (version_at p merged plan v f)

@@ -27,18 +27,18 @@ use Rattle.ipa_plan.specs.Rules.{Choice, kept_from, IsPlanned}
 use Rattle.ipa_transform.specs.Versioned.{picked}
 use Rattle.program_link.proofs.VersionFacts.{VersionFacts}
 use Rattle.gimple_meaning.specs.Linked.{linked_codes, linked_system}
-use Rattle.lowering_laws.specs.States.{versions_view}
+use Rattle.version_laws.specs.States.{versions_view}
 use Rattle.gimple_meaning.specs.Linked.{linked_start}
-use Rattle.lowering_laws.specs.Linked.{linked}
-use Rattle.lowering_laws.specs.Laws.{VersionsLaw}
-use Rattle.lowering_laws.proofs.Standing.{standing}
-use Rattle.lowering_laws.proofs.Named.{begins_at, same_arrays}
-use Rattle.lowering_laws.proofs.Bodies.{calls_before}
-use Rattle.lowering_laws.proofs.Uses.{code_at, known}
-use Rattle.lowering_laws.proofs.Reading.{reads_alive}
-use Rattle.lowering_laws.proofs.Frames.{CellsAlike, VersionFrames, GivenBy, versions_tie, frame_kept}
-use Rattle.lowering_laws.proofs.Entering.{Given, begins_with, vector_holds, version_begins, new_cells, version_enters}
-use Rattle.lowering_laws.proofs.Acting.{ActsAlike, now, lowered, function_found, code_found, step_found, acts_alike}
+use Rattle.version_laws.specs.Linked.{linked}
+use Rattle.version_laws.specs.Laws.{VersionsLaw}
+use Rattle.version_laws.proofs.Standing.{standing}
+use Rattle.version_laws.proofs.Named.{begins_at, same_arrays}
+use Rattle.version_laws.proofs.Bodies.{calls_before}
+use Rattle.version_laws.proofs.Uses.{code_at, known}
+use Rattle.version_laws.proofs.Reading.{reads_alive}
+use Rattle.version_laws.proofs.Frames.{CellsAlike, VersionFrames, GivenBy, versions_tie, frame_kept}
+use Rattle.version_laws.proofs.Entering.{Given, begins_with, vector_holds, version_begins, new_cells, version_enters}
+use Rattle.version_laws.proofs.Acting.{ActsAlike, now, lowered, function_found, code_found, step_found, acts_alike}
 
 -- ---- all statements
 

@@ -4,7 +4,7 @@
 //! In specs/, `States` says how versions stand for the program, `Linked` what the program is linked as, and `Laws` has the laws.
 #![tactic(auto)]
 
-ghost use Rattle.lowering_laws.specs.Laws.{VersionsLaw, TypedLaw};
+ghost use Rattle.version_laws.specs.Laws.{VersionsLaw, TypedLaw};
 
 use program_link::versioned;
 

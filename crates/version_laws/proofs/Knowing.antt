@@ -23,8 +23,8 @@ use Rattle.gimple_meaning.specs.Source.{first_component, taken}
 use Rattle.func_summary.specs.declared.assignments.Assignment.{Assignment}
 use Rattle.func_summary.specs.JumpFunctions.{is_parameter, copied, computed, unary_jump, convert_jump, binary_jump, assigns, copy_of_field, assignments_in, assignments_to, assignments_of, keeps_entry, over_entry, sole_value, component_jump, jump_of}
 use Rattle.ipa_plan.specs.Vectors.{lattice_at, of_result, lifted, jump_under}
-use Rattle.lowering_laws.proofs.Members.{In, in_flat_map, in_filter, in_range}
-use Rattle.lowering_laws.proofs.Cells.{cell-set_other, cell-set_same, cell-taken}
+use Rattle.version_laws.proofs.Members.{In, in_flat_map, in_filter, in_range}
+use Rattle.version_laws.proofs.Cells.{cell-set_other, cell-set_same, cell-taken}
 
 -- the value is what a jump function gives on the entry values
 abbrev pub JumpGives : JumpFunction → List (Option Value) → Value → Type 0

@@ -44,14 +44,14 @@ use Rattle.ipa_transform.specs.Versioned.{use_of, picked}
 use Rattle.gimple_meaning.specs.Versioned.{type_of, type_of_component, element_of}
 use Rattle.program_link.specs.Versions.{member_of}
 use Rattle.gimple_meaning.specs.Typed.{TargetTyped, ArgumentsTyped}
-use Rattle.lowering_laws.specs.States.{function_of_version}
-use Rattle.lowering_laws.specs.Linked.{given_type, result_type_of}
+use Rattle.version_laws.specs.States.{function_of_version}
+use Rattle.version_laws.specs.Linked.{given_type, result_type_of}
 use Rattle.program_link.proofs.VersionFacts.{VersionFacts}
-use Rattle.lowering_laws.proofs.Lists.{there}
-use Rattle.lowering_laws.proofs.Bindings.{binding_says, kept_below, picked_at}
-use Rattle.lowering_laws.proofs.Standing.{version_at}
-use Rattle.lowering_laws.proofs.Uses.{array_use_at}
-use Rattle.lowering_laws.proofs.Typing.{component_type, alike_is, operands_alike, known_type, arguments_typed, front_types}
+use Rattle.version_laws.proofs.Lists.{there}
+use Rattle.version_laws.proofs.Bindings.{binding_says, kept_below, picked_at}
+use Rattle.version_laws.proofs.Standing.{version_at}
+use Rattle.version_laws.proofs.Uses.{array_use_at}
+use Rattle.version_laws.proofs.Typing.{component_type, alike_is, operands_alike, known_type, arguments_typed, front_types}
 
 -- ---- operands
 

@@ -22,12 +22,12 @@ use Rattle.gimple_meaning.specs.Keeping.{FrameKept}
 use Rattle.func_summary.specs.JumpFunctions.{assigns, assignments_of, over_entry}
 use Rattle.ipa_plan.specs.Rules.{Choice}
 use Rattle.program_link.proofs.VersionFacts.{VersionFacts}
-use Rattle.lowering_laws.specs.States.{is_alive, versions_view}
-use Rattle.lowering_laws.proofs.Named.{function_there}
-use Rattle.lowering_laws.proofs.Members.{In}
-use Rattle.lowering_laws.proofs.Cells.{cell-set_other, cell-set_same, cell-set_there, length-slice_set}
-use Rattle.lowering_laws.proofs.Knowing.{Knows, Holds, JumpGives, knows_set, gives_copy}
-use Rattle.lowering_laws.proofs.Reading.{AliveOperand}
+use Rattle.version_laws.specs.States.{is_alive, versions_view}
+use Rattle.version_laws.proofs.Named.{function_there}
+use Rattle.version_laws.proofs.Members.{In}
+use Rattle.version_laws.proofs.Cells.{cell-set_other, cell-set_same, cell-set_there, length-slice_set}
+use Rattle.version_laws.proofs.Knowing.{Knows, Holds, JumpGives, knows_set, gives_copy}
+use Rattle.version_laws.proofs.Reading.{AliveOperand}
 
 -- ---- components
 

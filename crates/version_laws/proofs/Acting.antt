@@ -39,16 +39,16 @@ use Rattle.ipa_plan.specs.Rules.{Choice, kept_from, IsPlanned}
 use Rattle.ipa_transform.specs.Versioned.{step_of, steps_of, picked, kept_of, operands_of}
 use Rattle.program_link.specs.Versions.{member_of, version_in}
 use Rattle.gimple_meaning.specs.Linked.{linked_step, linked_code, linked_codes, linked_system}
-use Rattle.lowering_laws.specs.Linked.{linked}
-use Rattle.lowering_laws.proofs.Lists.{mapped_at}
-use Rattle.lowering_laws.proofs.Members.{In}
-use Rattle.lowering_laws.proofs.Standing.{version_at, standing, version_same}
-use Rattle.lowering_laws.proofs.Bodies.{types_same, calls_before, step_at, same_place, pairs_same}
-use Rattle.lowering_laws.proofs.Uses.{Known, CallKnown, code_at}
-use Rattle.lowering_laws.proofs.Knowing.{JumpGives, gives_copy, gives_unary, gives_convert, gives_binary, assigned_at, fields_assigned}
-use Rattle.lowering_laws.proofs.Reading.{AliveOperand, Reads}
-use Rattle.lowering_laws.proofs.Frames.{CellsAlike, VersionFrames, GivenBy, versions_tie, reads_alike, set_alike, pairs_alike, moved_alike}
-use Rattle.lowering_laws.proofs.Entering.{entered}
+use Rattle.version_laws.specs.Linked.{linked}
+use Rattle.version_laws.proofs.Lists.{mapped_at}
+use Rattle.version_laws.proofs.Members.{In}
+use Rattle.version_laws.proofs.Standing.{version_at, standing, version_same}
+use Rattle.version_laws.proofs.Bodies.{types_same, calls_before, step_at, same_place, pairs_same}
+use Rattle.version_laws.proofs.Uses.{Known, CallKnown, code_at}
+use Rattle.version_laws.proofs.Knowing.{JumpGives, gives_copy, gives_unary, gives_convert, gives_binary, assigned_at, fields_assigned}
+use Rattle.version_laws.proofs.Reading.{AliveOperand, Reads}
+use Rattle.version_laws.proofs.Frames.{CellsAlike, VersionFrames, GivenBy, versions_tie, reads_alike, set_alike, pairs_alike, moved_alike}
+use Rattle.version_laws.proofs.Entering.{entered}
 
 -- ---- the step of a statement
 

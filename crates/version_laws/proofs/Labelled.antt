@@ -21,7 +21,7 @@ use Rattle.ipa_transform.specs.Versioned.{step_of, calls_in, steps_of}
 use Rattle.program_link.specs.Versions.{member_of}
 use Rattle.program_link.proofs.Facts.{same_number}
 use Rattle.gimple_meaning.specs.Typed.{StandsOnce}
-use Rattle.lowering_laws.proofs.Standing.{version_at}
+use Rattle.version_laws.proofs.Standing.{version_at}
 
 -- the label of a step
 abbrev step_label : Step → Option ℕ

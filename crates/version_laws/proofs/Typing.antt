@@ -32,9 +32,9 @@ use Rattle.gimple_meaning.specs.Source.{first_component, components_from, pairs_
 use Rattle.func_summary.proofs.Checked.{both-true, below, same_type-is}
 use Rattle.gimple_meaning.specs.Versioned.{type_of, type_of_component}
 use Rattle.program_link.proofs.Facts.{three_true}
-use Rattle.lowering_laws.proofs.Lists.{there}
-use Rattle.lowering_laws.proofs.Standing.{version_at}
-use Rattle.lowering_laws.proofs.Bodies.{types_same}
+use Rattle.version_laws.proofs.Lists.{there}
+use Rattle.version_laws.proofs.Standing.{version_at}
+use Rattle.version_laws.proofs.Bodies.{types_same}
 
 -- ---- lists
 

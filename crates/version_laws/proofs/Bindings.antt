@@ -1,10 +1,9 @@
 -- What the bindings of a version say of the components that it needs and of the arguments that it takes.
-use Rattle.std.proofs.Common.{◌≡◌, ◌+◌, ◌<◌, ℕ, zero, suc, List, [], ◌∷◌, ◌++◌, length, Bool, true, false, Some, None, refl, sym, ap, ◌∙◌, subst, arith, append_assoc, length-append}
+use Rattle.std.proofs.Common.{◌≡◌, ◌+◌, ◌<◌, ℕ, zero, suc, List, [], ◌∷◌, ◌++◌, length, Bool, true, false, Some, refl, sym, ap, ◌∙◌, subst, arith, append_assoc, length-append}
 use Rattle.std.specs.Prelude.{All, Option, slice_get}
 use Rattle.std.specs.Option.{option_map_or}
 use Rattle.std.proofs.lemmas.Option.{none-some, same_Some}
 use Rattle.std.proofs.lemmas.List.Elements.{All-nil, All-cons, All-head, All-tail}
-use Rattle.gimple_ir.specs.declared.types.Value.{Value}
 use Rattle.gimple_ir.specs.declared.lattice.Lattice.{Lattice}
 use Rattle.gimple_ir.specs.declared.lattice.Lattice.TheVariants.{Top, Const, Bottom}
 use Rattle.gimple_ir.specs.declared.lattice.Binding.{Binding}
@@ -12,7 +11,7 @@ use Rattle.gimple_ir.specs.declared.lattice.Binding.TheVariants as binding
 use Rattle.ipa_plan.specs.Vectors.{lattice_at}
 use Rattle.ipa_plan.specs.Rules.{bound_as, next_argument, bindings_by, kept_here, kept_from}
 use Rattle.ipa_transform.specs.Versioned.{picked}
-use Rattle.lowering_laws.proofs.Lists.{there}
+use Rattle.version_laws.proofs.Lists.{there}
 
 -- ---- what a binding says
 

@@ -8,9 +8,9 @@ use Rattle.gimple_meaning.specs.Keeping.{Keeps}
 use Rattle.func_summary.specs.Summarised.{IsSummarised}
 use Rattle.ipa_plan.specs.Rules.{IsPlanned}
 use Rattle.gimple_meaning.specs.Typed.{ProgramTyped}
-use Rattle.lowering_laws.specs.States.{versions_view}
+use Rattle.version_laws.specs.States.{versions_view}
 use Rattle.gimple_meaning.specs.Linked.{linked_run}
-use Rattle.lowering_laws.specs.Linked.{linked}
+use Rattle.version_laws.specs.Linked.{linked}
 
 -- after each number of steps the versions stand for the source
 abbrev pub VersionsLaw : Type 0

@@ -1,5 +1,0 @@
-use Rattle.lowering_laws.proofs.Running.{versions_keep}
-use Rattle.lowering_laws.proofs.versions_keep.Goals as goal
-
-pub returns : goal.returns
-returns c = versions_keep

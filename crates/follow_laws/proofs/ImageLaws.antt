@@ -1,21 +1,17 @@
 -- What the machine finds in a text that is built of code.
-use Rattle.std.proofs.Common.{◌≡◌, ℕ, ◌+◌, ◌-◌, ◌*◌, ◌/◌, ◌%◌, ◌^◌, ◌<◌, ◌≤◌, true, List, [], ◌∷◌, ◌++◌, length, take, drop, Some, refl, sym, ap, ◌∙◌, subst, arith, append_assoc, append-nil, length-append}
-use Rattle.std.specs.Prelude.{slice_index, replicate}
-use Rattle.std.proofs.Math.Seq.{drop-append_seam, take-append_seam}
-use Rattle.std.proofs.lemmas.List.{length-replicate}
+use Rattle.std.proofs.Common.{◌≡◌, ℕ, ◌+◌, ◌-◌, ◌*◌, ◌/◌, ◌%◌, ◌^◌, ◌<◌, ◌≤◌, true, List, [], ◌∷◌, ◌++◌, length, take, drop, Some, refl, sym, ap, ◌∙◌, subst, arith, append_assoc, length-append}
+use Rattle.std.specs.Prelude.{slice_index}
+use Rattle.std.proofs.Math.Seq.{drop-append_seam}
 use Rattle.std.proofs.lemmas.Bool.{and_from, le-leb}
 use Rattle.rv64_isa.specs.declared.instr.Instr.{Instr}
 use Rattle.rv64_isa.specs.Words.{InRange, word_of, instr_of}
 use Rattle.rv64_isa.proofs.WordLaws.{word_of_lt, instr_of-word_of}
 use Rattle.rv64_meaning.specs.Machine.{Segments, load, in_text, fetch}
 use Rattle.rv64_meaning.specs.Bytes.{number_of}
-use Rattle.rv64_meaning.specs.Loading as loading
 use Rattle.rv64_meaning.proofs.ByteLaws.{fetch_here, word_in_text}
-use Rattle.final_link.specs.Stubs.{stubs}
-use Rattle.final_link.specs.Image.{word_bytes, code_bytes, AllInRange, half, word, xword, elf_header, headers, text_size, data_address, scratch_address, stack_top, text_of, image_of}
-use Rattle.final_link.proofs.CodeLaws.{code_bytes-cons, code_bytes-append}
+use Rattle.final_link.specs.Image.{word_bytes, code_bytes, AllInRange}
+use Rattle.final_link.proofs.CodeLaws.{code_bytes-cons}
 use Rattle.follow_laws.specs.Relation.{StandsAt}
-use Rattle.follow_laws.proofs.EncodingLaws.{all_append, stubs_encode}
 
 -- ---- bytes of code
 

@@ -7,3 +7,11 @@ pub mod Laws
 pub mod Selections
 pub mod Direct
 pub mod Patched
+pub mod Plans
+pub mod Layouts
+pub mod Related
+pub mod Rows
+pub mod Starts
+pub mod Images
+pub mod DirectImages
+pub mod FirstStates

@@ -18,7 +18,7 @@ use Rattle.ipa_plan.specs.Rules.{IsPlanned}
 use Rattle.program_link.specs.Versions.{functions_of}
 use Rattle.program_link.specs.Linking.{limits_of, first_passed}
 use Rattle.program_link.specs.Laws.{VersionsFit, SymbolsAgree, SymbolsDiffer, MainStands, IsKeptUse, UsesKept, TextSmall, ArraysSmall}
-use Rattle.image_laws.specs.Direct.{UseIsKept, IsDirect}
+use Rattle.follow_laws.specs.DirectImages.{UseIsKept, IsDirect}
 
 -- ---- arrays
 

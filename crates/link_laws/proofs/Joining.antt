@@ -15,13 +15,13 @@ use Rattle.follow_laws.specs.Direct.{direct_image}
 use Rattle.follow_laws.specs.Follows.{shown_by, Follows}
 use Rattle.program_link.specs.Versions.{functions_of}
 use Rattle.program_link.specs.Linking.{limits_of, first_passed}
-use Rattle.machine_laws.specs.Starts.{MachineFollows}
+use Rattle.follow_laws.specs.Starts.{MachineFollows}
 use Rattle.version_laws.specs.States.{versions_view}
 use Rattle.gimple_meaning.specs.Linked.{linked_run}
 use Rattle.version_laws.specs.Linked.{result_type_of, linked}
 use Rattle.version_laws.specs.Laws.{VersionsLaw, TypedLaw}
-use Rattle.image_laws.specs.Direct.{IsDirect, layout_of, DirectLoads, DirectIsPlaced}
-use Rattle.image_laws.specs.Start.{StartIsAtStart}
+use Rattle.follow_laws.specs.DirectImages.{IsDirect, layout_of, DirectLoads, DirectIsPlaced}
+use Rattle.follow_laws.specs.FirstStates.{StartIsAtStart}
 use Rattle.link_laws.specs.Laws.{LinkedLoads, LinkedFollows}
 use Rattle.link_laws.proofs.Directly.{Known, is_direct}
 

@@ -5,10 +5,9 @@
 
 ghost use Rattle.link_laws.specs.Laws.{LinkedLoads, LinkedFollows};
 
+use follow_laws::{direct_images, machine_follows, starts};
 use gimple_meaning::{following, keeping};
-use image_laws::{direct_images, starts};
 use ipa_plan::planned;
-use machine_laws::machine_follows;
 use program_link::versioned;
 use version_laws::{typed_versions, versions_keep};
 

@@ -10,7 +10,7 @@ use Rattle.gimple_ir.specs.declared.plan.Plan.{Plan}
 use Rattle.gimple_ir.specs.declared.merged.Merged.{Merged}
 use Rattle.program_link.specs.Versions.{functions_of}
 use Rattle.gimple_meaning.specs.Linked.{LinkedProgram}
-use Rattle.machine_laws.specs.Plans.{linked_of}
+use Rattle.follow_laws.specs.Plans.{linked_of}
 use Rattle.version_laws.specs.States.{function_of_version}
 
 -- a function that gives nothing has no use of a type

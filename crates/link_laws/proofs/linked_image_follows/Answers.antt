@@ -10,6 +10,6 @@ returns c =
     let summarised = c.planned.ensures.summarised in
     record {
       loads = linked_loads known plan summarised c.direct_images.ensures.loads;
-      follows = linked_follows known plan summarised c.direct_images.ensures.placed c.starts.ensures.at_start c.machine_follows.ensures c.typed_versions.ensures c.versions_keep.ensures
+      follows = linked_follows known plan summarised c.direct_images.ensures.placed c.starts.ensures c.machine_follows.ensures c.typed_versions.ensures c.versions_keep.ensures
           c.keeping.ensures.follows c.following.ensures;
     }

@@ -1,5 +1,0 @@
-use Rattle.image_laws.proofs.PlacedLaws.{direct_loads, direct_is_placed}
-use Rattle.image_laws.proofs.direct_images.Goals as goal
-
-pub returns : goal.returns
-returns c = record { loads = direct_loads; placed = direct_is_placed }

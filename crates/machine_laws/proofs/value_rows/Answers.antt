@@ -1,5 +1,0 @@
-use Rattle.machine_laws.proofs.AllRows.{unary_row, convert_row, binary_row}
-use Rattle.machine_laws.proofs.value_rows.Goals as goal
-
-pub returns : goal.returns
-returns c = record { unary = unary_row; convert = convert_row; binary = binary_row }

@@ -1,5 +1,0 @@
-pub mod Plans
-pub mod Layouts
-pub mod Relation
-pub mod Rows
-pub mod Starts
